@@ -1,0 +1,3 @@
+pub mod Bools
+pub mod Rising
+pub mod Pinning

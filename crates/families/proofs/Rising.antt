@@ -1,0 +1,20 @@
+-- Numbers that rise. Assumes nothing.
+use mathlib.Core.Path.{_≡_}
+use mathlib.Core.Logic.{inl, inr}
+use mathlib.Core.List.{List, [], _∷_}
+use Prim.Native.Nat.{ℕ, _≤_}
+use native.Mathlib.Omega.{arith}
+use Rattle.families.specs.Chain.{Rises, Has}
+
+-- none is below the first
+pub rises-least : (i j v : ℕ) (vs : List ℕ) → Rises i j vs → Has (i ∷ vs) v → i ≤ v
+rises-least i j v vs r (inl e) = omega arith
+rises-least i j v [] r (inr h) = absurd h
+rises-least i j v (w ∷ ws) r (inr h) = let l = r .0 in let k = rises-least w j v ws (r .1) h in omega arith
+
+-- none is above the last
+pub rises-most : (i j v : ℕ) (vs : List ℕ) → Rises i j vs → Has (i ∷ vs) v → v ≤ j
+rises-most i j v [] r (inl e) = omega arith
+rises-most i j v [] r (inr h) = absurd h
+rises-most i j v (w ∷ ws) r (inl e) = let l = r .0 in let k = rises-most w j w ws (r .1) (inl (omega arith)) in omega arith
+rises-most i j v (w ∷ ws) r (inr h) = rises-most w j v ws (r .1) h

@@ -1,0 +1,5 @@
+pub mod Price
+pub mod Chain
+pub mod Family
+pub mod Pin
+pub mod Theorems

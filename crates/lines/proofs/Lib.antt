@@ -1,0 +1,4 @@
+pub mod Integers
+pub mod Levels
+pub mod Lines
+pub mod Areas

@@ -1,0 +1,5 @@
+pub mod Fields
+pub mod Records
+pub mod Items
+pub mod Signs
+pub mod Layouts
