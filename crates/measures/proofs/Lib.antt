@@ -1,0 +1,4 @@
+pub mod Products
+pub mod Rising
+pub mod Skipped
+pub mod Areas

@@ -1,0 +1,5 @@
+pub mod Measure
+pub mod Plane
+pub mod Segment
+pub mod Strip
+pub mod Area
