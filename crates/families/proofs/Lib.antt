@@ -1,3 +1,4 @@
 pub mod Bools
 pub mod Rising
 pub mod Pinning
+pub mod Links

@@ -4,7 +4,11 @@ use mathlib.Core.Logic.{inl, inr}
 use mathlib.Core.List.{List, [], _∷_}
 use Prim.Native.Nat.{ℕ, _≤_}
 use native.Mathlib.Omega.{arith}
-use Rattle.families.specs.Chain.{Rises, Has}
+use lib.Dec.{eqb}
+use Rattle.std.specs.Orderings.{Decides}
+use Rattle.std.proofs.shelf.Tests.{false≢true}
+use Rattle.std.proofs.shelf.Ways.{decides-eqb, decides-or}
+use Rattle.families.specs.Chain.{Rises, Has, has}
 
 -- none is below the first
 pub rises-least : (i j v : ℕ) (vs : List ℕ) → Rises i j vs → Has (i ∷ vs) v → i ≤ v
@@ -18,3 +22,8 @@ rises-most i j v [] r (inl e) = omega arith
 rises-most i j v [] r (inr h) = absurd h
 rises-most i j v (w ∷ ws) r (inl e) = let l = r .0 in let k = rises-most w j w ws (r .1) (inl (omega arith)) in omega arith
 rises-most i j v (w ∷ ws) r (inr h) = rises-most w j v ws (r .1) h
+
+-- the test `has`, read as a statement
+pub has-means : (xs : List ℕ) (v : ℕ) → Decides (has xs v) (Has xs v)
+has-means [] v = (λ e. absurd (false≢true e), λ h. absurd h)
+has-means (x ∷ xs) v = decides-or (eqb v x) (has xs v) (decides-eqb v x) (has-means xs v)

@@ -1,8 +1,10 @@
 -- Chains of vertex numbers and their links. Assumes nothing.
 use mathlib.Core.Path.{_≡_}
 use mathlib.Core.Logic.{_⊎_}
+use mathlib.Core.Bool.{Bool, false, _||_}
 use mathlib.Core.List.{List, [], _∷_}
 use Prim.Native.Nat.{ℕ, _-_, _<_}
+use lib.Dec.{eqb}
 
 -- The numbers vs continue a rise from i to j: each is above the one before it, and the last is j.
 abbrev pub Rises : ℕ → ℕ → List ℕ → Type 0
@@ -28,3 +30,8 @@ links-from v (w ∷ ws) = (v, w) ∷ links-from w ws
 abbrev pub links : List ℕ → List (ℕ × ℕ)
 links [] = []
 links (v ∷ vs) = links-from v vs
+
+-- Whether the chain has the vertex v.
+abbrev pub has : List ℕ → ℕ → Bool
+has [] v = false
+has (x ∷ xs) v = eqb v x || has xs v

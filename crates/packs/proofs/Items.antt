@@ -5,7 +5,7 @@ use Prim.Native.Nat.{ℕ, zero, suc, _+_, _-_, _*_, _<_, _≤_}
 use native.Mathlib.Omega.{arith}
 use native.Mathlib.Nat.{mul-zero, mul-suc, add-comm}
 use native.Mathlib.Numerals.{add-one}
-use lib.ListN.{length, drop, take, set}
+use lib.ListN.{length, getD, drop, take, set}
 use Rattle.std.proofs.shelf.Lists.{drop-drop, take-more-set, take-all}
 use Rattle.packs.specs.Job.{items}
 
@@ -30,3 +30,9 @@ module _ {X : Type 0} (w : ℕ) (from : List ℕ → X) where
   pub length-items : (k : ℕ) (bs : List ℕ) → length (items w from k bs) ≡ k
   length-items zero bs = refl
   length-items (suc k) bs = ap suc (length-items k (drop w bs))
+
+  -- the item at a position
+  pub getD-items : (k i : ℕ) (bs : List ℕ) (d : X) → i < k → getD (items w from k bs) i d ≡ from (drop (w * i) bs)
+  getD-items zero i bs d h = absurd (omega arith)
+  getD-items (suc k) zero bs d h = rw (mul-zero w) refl
+  getD-items (suc k) (suc i) bs d h = getD-items k i (drop w bs) d (omega arith) ∙ ap from (past i bs)

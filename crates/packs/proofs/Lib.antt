@@ -3,3 +3,8 @@ pub mod Records
 pub mod Items
 pub mod Signs
 pub mod Layouts
+pub mod LittleEndian
+pub mod Answered
+pub mod RecordTrips
+pub mod ItemTrips
+pub mod Accepting

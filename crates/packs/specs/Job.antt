@@ -122,13 +122,12 @@ abbrev pub head-in : List ℕ → Result (Content × ℕ) Fault
 head-in bs = then (layout-in bs) (λ l. then (content-in bs l) (λ j. Ok (j, l .end)))
 
 -- A job pack is accepted exactly when it is the encoding of a lawful job.
-abbrev pub Accepts-jobs : List ℕ → Type 0
-Accepts-jobs bs = (j : Content) → (job-in bs ≡ Ok j) ↔ (Lawful-content j × (bs ≡ encoded j))
+pub record Accepts-jobs (bs : List ℕ) : Type 0 where
+  pub exactly : (j : Content) → (job-in bs ≡ Ok j) ↔ (Lawful-content j × (bs ≡ encoded j))
 
 -- The beginning of a family pack is accepted exactly when the bytes begin with the encoding of a lawful job.
-abbrev pub Accepts-heads : List ℕ → Type 0
-Accepts-heads bs =
-    (j : Content) (end : ℕ) → (head-in bs ≡ Ok (j, end)) ↔ (Lawful-content j × (end ≡ length (encoded j)) × ((rest : List ℕ) × (bs ≡ encoded j ++ rest)))
+pub record Accepts-heads (bs : List ℕ) : Type 0 where
+  pub exactly : (j : Content) (end : ℕ) → (head-in bs ≡ Ok (j, end)) ↔ (Lawful-content j × (end ≡ length (encoded j)) × ((rest : List ℕ) × (bs ≡ encoded j ++ rest)))
 
 -- The summary of a job that the readers answer.
 abbrev pub summary : Content → Job

@@ -2,7 +2,7 @@ ghost use mathlib.Core.Path.{_≡_};
 ghost use Prim.Native.Nat.{_+_, _*_, _/_, _≤_};
 ghost use lib.ListN.{length, take, drop};
 ghost use Rattle.std.specs.Vec.{made};
-ghost use Rattle.packs.specs.Job.{vertex-from, level-from, items, Within, layout-in, vertices-in, levels-in, judged-content, content-in, job-in, head-in, content-of, summed-up, summed-up-to, placed-vertices, placed-levels};
+ghost use Rattle.packs.specs.Job.{vertex-from, level-from, items, Within, layout-in, vertices-in, levels-in, judged-content, content-in, job-in, head-in, content-of, summed-up, summed-up-to, Accepts-jobs, Accepts-heads, placed-vertices, placed-levels};
 use crate::bytes::u16_at;
 use crate::bytes::u32_at;
 use crate::bytes::u8_at;
@@ -113,6 +113,7 @@ fn content(bytes: &[u8], layout: Layout, place: &mut Place) -> Result<Job, Fault
 // Reads a job pack into the place. A refusal leaves the place as it stood.
 pub fn read_job(bytes: &[u8], place: &mut Place) -> Result<Job, Fault>
     ensures answer { λ r. ⌜ r ≡ summed-up (job-in (now (bytes .entry))) ⌝ }
+    ensures accepts_exactly_lawful_jobs { λ _. ⌜ Accepts-jobs (now (bytes .entry)) ⌝ }
     ensures vertices { λ _. ⌜ now (place .exit) .vertices ≡ placed-vertices (job-in (now (bytes .entry))) (now (place .entry) .vertices) ⌝ }
     ensures levels { λ _. ⌜ now (place .exit) .levels ≡ placed-levels (job-in (now (bytes .entry))) (now (place .entry) .levels) ⌝ }
 {
@@ -126,6 +127,7 @@ pub fn read_job(bytes: &[u8], place: &mut Place) -> Result<Job, Fault>
 // Reads the beginning of a family pack into the place, and answers where the rest starts. A refusal leaves the place as it stood.
 pub fn read_family_head(bytes: &[u8], place: &mut Place) -> Result<(Job, usize), Fault>
     ensures answer { λ r. ⌜ r ≡ summed-up-to (head-in (now (bytes .entry))) ⌝ }
+    ensures accepts_exactly_lawful_heads { λ _. ⌜ Accepts-heads (now (bytes .entry)) ⌝ }
     ensures vertices { λ _. ⌜ now (place .exit) .vertices ≡ placed-vertices (content-of (head-in (now (bytes .entry)))) (now (place .entry) .vertices) ⌝ }
     ensures levels { λ _. ⌜ now (place .exit) .levels ≡ placed-levels (content-of (head-in (now (bytes .entry)))) (now (place .entry) .levels) ⌝ }
 {
