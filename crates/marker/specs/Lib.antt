@@ -1,0 +1,4 @@
+pub mod Records
+pub mod Judge
+pub mod Judged
+pub mod Marker

@@ -1,0 +1,5 @@
+// The marker: accepts exactly the true families.
+pub mod chain;
+pub mod level;
+pub mod records;
+pub mod mark;
