@@ -3,3 +3,5 @@ pub mod chain;
 pub mod level;
 pub mod records;
 pub mod mark;
+pub mod pack;
+pub mod verdict;

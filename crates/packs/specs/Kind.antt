@@ -4,6 +4,9 @@ use Prim.Native.Nat.{ℕ}
 use lib.Dec.{eqb}
 use Rattle.std.specs.declared.option.Option.{Option}
 use Rattle.std.specs.declared.option.Option.the-variants.{Some, None}
+use Rattle.measures.specs.Segment.{segment-largest}
+use Rattle.measures.specs.Strip.{strip-largest}
+use Rattle.measures.specs.Area.{area-largest}
 use Rattle.packs.specs.declared.kind.MeasureKind.{MeasureKind}
 use Rattle.packs.specs.declared.kind.MeasureKind.the-variants.{Segment, Strip, Area}
 use Rattle.packs.specs.declared.kind.PriceKind.{PriceKind}
@@ -30,6 +33,6 @@ price-numbered n = cond (eqb n 1) (Some Count) (cond (eqb n 2) (Some CountThenAr
 
 -- The largest tolerance of each measure.
 abbrev pub measure-largest : MeasureKind → ℕ
-measure-largest Segment = 32768
-measure-largest Strip = 32768
-measure-largest Area = 2147483647
+measure-largest Segment = segment-largest
+measure-largest Strip = strip-largest
+measure-largest Area = area-largest

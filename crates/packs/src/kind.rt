@@ -1,5 +1,9 @@
 ghost use mathlib.Core.Path.{_≡_};
 ghost use Rattle.packs.specs.Kind.{measure-numbered, price-numbered, measure-largest};
+use measures::area::AreaMeasure;
+use measures::measure::Measure;
+use measures::segment::SegmentMeasure;
+use measures::strip::StripMeasure;
 
 // The measures that packs name by a number.
 #[derive(Clone, Copy, PartialEq, Eq, Debug)]
@@ -34,9 +38,9 @@ impl MeasureKind {
         ensures { λ r. ⌜ r ≡ measure-largest self ⌝ }
     {
         match self {
-            MeasureKind::Segment => 32768,
-            MeasureKind::Strip => 32768,
-            MeasureKind::Area => 2147483647,
+            MeasureKind::Segment => SegmentMeasure::largest_tolerance(),
+            MeasureKind::Strip => StripMeasure::largest_tolerance(),
+            MeasureKind::Area => AreaMeasure::largest_tolerance(),
         }
     }
 }
