@@ -6,3 +6,4 @@ pub mod Heads
 pub mod ChainTrips
 pub mod TotalTrips
 pub mod Marking
+pub mod Packs

@@ -8,7 +8,7 @@ ghost use Rattle.families.specs.Family.{total};
 ghost use Rattle.prices.specs.Price.{price-by};
 ghost use Rattle.marker.specs.Records.{chains-in, chains-end, chain-of};
 ghost use Rattle.marker.specs.Judge.{judged-chains};
-ghost use Rattle.marker.specs.Marker.{same-form, marked};
+ghost use Rattle.marker.specs.Marker.{same-form, marked, Marks-families};
 use crate::level::chain_cost;
 use crate::level::judge_chain;
 use crate::records::body_at;
@@ -65,7 +65,8 @@ fn same_form(a: (u32, u64), b: (u32, u64)) -> bool
 
 // Marks a family: answers its total, or the first fault.
 pub fn mark<M: Measure, P: Price>(measure: &M, line: &Line, levels: &[Level], records: &[u8]) -> Result<P, Fault>
-    ensures { λ r. ⌜ r ≡ marked (P·Price .kind) (P·Price .link) (M·Measure .largest) (M·Measure .says (now (measure .entry))) (now (now (line .entry) .vertices)) (now (levels .entry)) (now (records .entry)) ⌝ }
+    ensures answer { λ r. ⌜ r ≡ marked (P·Price .kind) (P·Price .link) (M·Measure .largest) (M·Measure .says (now (measure .entry))) (now (now (line .entry) .vertices)) (now (levels .entry)) (now (records .entry)) ⌝ }
+    ensures accepts_exactly_families { λ _. ⌜ Marks-families (P·Price .kind) (P·Price .link) (M·Measure .largest) (M·Measure .says (now (measure .entry))) (now (now (line .entry) .vertices)) (now (levels .entry)) (now (records .entry)) ⌝ }
 {
     check_count(levels.len(), Layer::Marker)?;
     check_levels(levels, M::largest_tolerance(), Layer::Marker)?;

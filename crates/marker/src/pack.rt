@@ -3,7 +3,7 @@ ghost use mathlib.Core.Path.{_≡_};
 ghost use Prim.Native.Nat.{_≤_};
 ghost use lib.ListN.{length, drop};
 ghost use Rattle.packs.specs.Kind.{measure-largest};
-ghost use Rattle.marker.specs.Pack.{measure-says, form-marked, place-marked, pack-marked};
+ghost use Rattle.marker.specs.Pack.{measure-says, form-marked, place-marked, pack-marked, Marks-packs};
 use crate::mark::mark;
 use lines::fault::Fault;
 use lines::level::Level;
@@ -75,7 +75,8 @@ fn rest(bytes: &[u8], at: usize) -> &[u8]
 
 // Marks a family pack: answers the form of its total, or the first fault.
 pub fn mark_pack(bytes: &[u8]) -> Result<(u32, u64), Fault>
-    ensures { λ r. ⌜ r ≡ pack-marked (now (bytes .entry)) ⌝ }
+    ensures answer { λ r. ⌜ r ≡ pack-marked (now (bytes .entry)) ⌝ }
+    ensures valid_exactly_for_true_families { λ _. ⌜ Marks-packs (now (bytes .entry)) ⌝ }
 {
     let mut place = Place::blank();
     let (job, end) = read_family_head(bytes, &mut place)?;
