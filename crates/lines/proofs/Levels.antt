@@ -57,8 +57,8 @@ complete largest layer k least (l ∷ ls) f r =
     let a = and-from _ _ (le-leb least (l .tolerance) (f (omega arith))) (le-leb (l .tolerance) largest (r .bounded 0 (omega arith))) in
     let b = and-from _ _ (le-leb 1 (l .weight) (r .weighted 0 (omega arith) .0)) (le-leb (l .weight) 1000 (r .weighted 0 (omega arith) .1)) in
     let rest = complete largest layer (k + 1) (l .tolerance + 1) ls
-        (λ z. let q = r .rising 0 (omega arith) in omega arith)
-        (record { rising = λ i z. r .rising (suc i) (omega arith); bounded = λ i z. r .bounded (suc i) (omega arith); weighted = λ i z. r .weighted (suc i) (omega arith) }) in
+    (λ z. let q = r .rising 0 (omega arith) in omega arith)
+    (record { rising = λ i z. r .rising (suc i) (omega arith); bounded = λ i z. r .bounded (suc i) (omega arith); weighted = λ i z. r .weighted (suc i) (omega arith) }) in
     rw (a, b) rest
 
 pub judged-means : (largest : ℕ) (layer : Layer) (ls : List Level) → Decides (isOk (judged-levels largest layer ls)) (Lawful-levels largest ls)

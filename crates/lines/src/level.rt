@@ -20,7 +20,12 @@ pub fn check_count(m: usize, layer: Layer) -> Result<(), Fault>
     ensures lawful { λ r. ⌜ Decides (isOk r) ((1 ≤ m) × (m ≤ 8)) ⌝ }
 {
     if m < 1 || m > 8 {
-        return Err(Fault { cause: Cause::Limits, layer, place: 1, spot: 0 });
+        return Err(Fault {
+            cause: Cause::Limits,
+            layer,
+            place: 1,
+            spot: 0,
+        });
     }
     Ok(())
 }
@@ -33,10 +38,20 @@ pub fn check_levels(levels: &[Level], largest: u32, layer: Layer) -> Result<(), 
     let mut least: u64 = 0;
     for (i, l) in levels.iter().enumerate() {
         if (l.tolerance as u64) < least || l.tolerance > largest {
-            return Err(Fault { cause: Cause::Tolerance, layer, place: i + 1, spot: 0 });
+            return Err(Fault {
+                cause: Cause::Tolerance,
+                layer,
+                place: i + 1,
+                spot: 0,
+            });
         }
         if l.weight < 1 || l.weight > 1000 {
-            return Err(Fault { cause: Cause::Weight, layer, place: i + 1, spot: 0 });
+            return Err(Fault {
+                cause: Cause::Weight,
+                layer,
+                place: i + 1,
+                spot: 0,
+            });
         }
         least = l.tolerance as u64 + 1;
     }

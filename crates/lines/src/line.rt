@@ -22,7 +22,9 @@ impl<'a> Line<'a> {
     pub fn built_in() -> Line<'a>
         ensures { λ r. ⌜ now (r .vertices) ≡ built-in ⌝ }
     {
-        Line { vertices: &BUILT_IN }
+        Line {
+            vertices: &BUILT_IN,
+        }
     }
 
     // Makes this the line of these vertices, or refuses and leaves it as it stood.
@@ -33,11 +35,21 @@ impl<'a> Line<'a> {
     {
         let count = vertices.len();
         if count < 2 || count > 256 {
-            return Err(Fault { cause: Cause::Limits, layer: Layer::Content, place: 0, spot: 0 });
+            return Err(Fault {
+                cause: Cause::Limits,
+                layer: Layer::Content,
+                place: 0,
+                spot: 0,
+            });
         }
         for (i, v) in vertices.iter().enumerate() {
             if !v.in_range() {
-                return Err(Fault { cause: Cause::Coordinate, layer: Layer::Content, place: i, spot: 0 });
+                return Err(Fault {
+                    cause: Cause::Coordinate,
+                    layer: Layer::Content,
+                    place: i,
+                    spot: 0,
+                });
             }
         }
         self.vertices = vertices;

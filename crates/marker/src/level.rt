@@ -29,17 +29,39 @@ pub fn first_forbidden<M: Measure>(measure: &M, line: &Line, body: &[u8], t: u32
 }
 
 // Judges the chain of level k under the next finer one: order, then nesting, then links.
-pub fn judge_chain<M: Measure>(measure: &M, line: &Line, body: &[u8], finer: &[u8], k: usize, t: u32) -> Result<(), Fault>
+pub fn judge_chain<M: Measure>(
+    measure: &M,
+    line: &Line,
+    body: &[u8],
+    finer: &[u8],
+    k: usize,
+    t: u32,
+) -> Result<(), Fault>
     ensures { λ r. ⌜ r ≡ judged-chain (λ i j. M·Measure .says (now (measure .entry)) (now (now (line .entry) .vertices)) i j t) (length (now (now (line .entry) .vertices))) k (numbers (now (finer .entry))) (numbers (now (body .entry))) ⌝ }
 {
     if let Some(spot) = first_disorder(body, line.count()) {
-        return Err(Fault { cause: Cause::Order, layer: Layer::Marker, place: k, spot });
+        return Err(Fault {
+            cause: Cause::Order,
+            layer: Layer::Marker,
+            place: k,
+            spot,
+        });
     }
     if let Some(spot) = first_missing(body, finer) {
-        return Err(Fault { cause: Cause::Nesting, layer: Layer::Marker, place: k, spot });
+        return Err(Fault {
+            cause: Cause::Nesting,
+            layer: Layer::Marker,
+            place: k,
+            spot,
+        });
     }
     if let Some(spot) = first_forbidden(measure, line, body, t) {
-        return Err(Fault { cause: Cause::Link, layer: Layer::Marker, place: k, spot });
+        return Err(Fault {
+            cause: Cause::Link,
+            layer: Layer::Marker,
+            place: k,
+            spot,
+        });
     }
     Ok(())
 }

@@ -26,7 +26,12 @@ use packs::bytes::u64_at;
 use prices::price::Price;
 
 // Judges the chains level by level.
-fn judge_chains<M: Measure>(measure: &M, line: &Line, levels: &[Level], records: &[u8]) -> Result<(), Fault>
+fn judge_chains<M: Measure>(
+    measure: &M,
+    line: &Line,
+    levels: &[Level],
+    records: &[u8],
+) -> Result<(), Fault>
     requires { ⌜ isOk (chains-end (length (now (now line .vertices))) (length (now levels)) 0 (now records)) ≡ true ⌝ }
     ensures { λ r. ⌜ r ≡ judged-chains (λ t i j. M·Measure .says (now (measure .entry)) (now (now (line .entry) .vertices)) i j t) (length (now (now (line .entry) .vertices))) (chains-in (length (now (levels .entry))) (now (records .entry))) (now (levels .entry)) ⌝ }
 {
@@ -34,7 +39,14 @@ fn judge_chains<M: Measure>(measure: &M, line: &Line, levels: &[Level], records:
     let mut finer = 0;
     for (i, level) in levels.iter().enumerate() {
         let body = body_at(records, at);
-        judge_chain(measure, line, body, body_at(records, finer), i + 1, level.tolerance)?;
+        judge_chain(
+            measure,
+            line,
+            body,
+            body_at(records, finer),
+            i + 1,
+            level.tolerance,
+        )?;
         finer = at;
         at = at + 6 + body.len();
     }
@@ -64,7 +76,12 @@ fn same_form(a: (u32, u64), b: (u32, u64)) -> bool
 }
 
 // Marks a family: answers its total, or the first fault.
-pub fn mark<M: Measure, P: Price>(measure: &M, line: &Line, levels: &[Level], records: &[u8]) -> Result<P, Fault>
+pub fn mark<M: Measure, P: Price>(
+    measure: &M,
+    line: &Line,
+    levels: &[Level],
+    records: &[u8],
+) -> Result<P, Fault>
     ensures answer { λ r. ⌜ r ≡ marked (P·Price .kind) (P·Price .link) (M·Measure .largest) (M·Measure .says (now (measure .entry))) (now (now (line .entry) .vertices)) (now (levels .entry)) (now (records .entry)) ⌝ }
     ensures accepts_exactly_families { λ _. ⌜ Marks-families (P·Price .kind) (P·Price .link) (M·Measure .largest) (M·Measure .says (now (measure .entry))) (now (now (line .entry) .vertices)) (now (levels .entry)) (now (records .entry)) ⌝ }
 {
@@ -73,8 +90,16 @@ pub fn mark<M: Measure, P: Price>(measure: &M, line: &Line, levels: &[Level], re
     let stop = structure(records, line.count(), levels.len())?;
     judge_chains(measure, line, levels, records)?;
     let sum = total::<P>(line, levels, records);
-    if !same_form(sum.form(), (u32_at(records, stop + 6), u64_at(records, stop + 10))) {
-        return Err(Fault { cause: Cause::Total, layer: Layer::Marker, place: 0, spot: 0 });
+    if !same_form(
+        sum.form(),
+        (u32_at(records, stop + 6), u64_at(records, stop + 10)),
+    ) {
+        return Err(Fault {
+            cause: Cause::Total,
+            layer: Layer::Marker,
+            place: 0,
+            spot: 0,
+        });
     }
     Ok(sum)
 }

@@ -27,7 +27,13 @@ use prices::count_then_area::CountThenAreaPrice;
 use prices::price::Price;
 
 // Marks under the price with its number; the answer is the form of the total.
-pub fn mark_priced<M: Measure>(measure: &M, price: PriceKind, line: &Line, levels: &[Level], records: &[u8]) -> Result<(u32, u64), Fault>
+pub fn mark_priced<M: Measure>(
+    measure: &M,
+    price: PriceKind,
+    line: &Line,
+    levels: &[Level],
+    records: &[u8],
+) -> Result<(u32, u64), Fault>
     ensures { λ r. ⌜ r ≡ form-marked price (M·Measure .largest) (M·Measure .says (now (measure .entry))) (now (now (line .entry) .vertices)) (now (levels .entry)) (now (records .entry)) ⌝ }
 {
     match price {
@@ -43,7 +49,13 @@ pub fn mark_priced<M: Measure>(measure: &M, price: PriceKind, line: &Line, level
 }
 
 // Marks under the measure and the price with their numbers.
-pub fn mark_numbered(measure: MeasureKind, price: PriceKind, line: &Line, levels: &[Level], records: &[u8]) -> Result<(u32, u64), Fault>
+pub fn mark_numbered(
+    measure: MeasureKind,
+    price: PriceKind,
+    line: &Line,
+    levels: &[Level],
+    records: &[u8],
+) -> Result<(u32, u64), Fault>
     ensures { λ r. ⌜ r ≡ form-marked price (measure-largest measure) (measure-says measure) (now (now (line .entry) .vertices)) (now (levels .entry)) (now (records .entry)) ⌝ }
 {
     match measure {

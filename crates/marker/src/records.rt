@@ -32,7 +32,12 @@ pub fn structure(records: &[u8], n: usize, m: usize) -> Result<usize, Fault>
     let stop = chains_end(records, n, m)?;
     body_length(records, stop, Due::Total)?;
     if stop + 18 != records.len() {
-        return Err(Fault { cause: Cause::LeftOver, layer: Layer::Pack, place: stop + 18, spot: 0 });
+        return Err(Fault {
+            cause: Cause::LeftOver,
+            layer: Layer::Pack,
+            place: stop + 18,
+            spot: 0,
+        });
     }
     Ok(stop)
 }

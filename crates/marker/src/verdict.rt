@@ -17,17 +17,32 @@ fn valid_line(heap: Global, form: (u32, u64)) -> Result<String, AllocError>
 }
 
 // The line of a refusal with these numbers.
-fn numbered_line(heap: Global, number: u8, layer: u8, place: usize, spot: usize) -> Result<String, AllocError>
+fn numbered_line(
+    heap: Global,
+    number: u8,
+    layer: u8,
+    place: usize,
+    spot: usize,
+) -> Result<String, AllocError>
     ensures { λ r. ⌜ made r (λ s. string-bytes s ≡ numbered-text number layer place spot) ⌝ }
 {
-    format!(heap, "refused {number} layer {layer} place {place} spot {spot}")
+    format!(
+        heap,
+        "refused {number} layer {layer} place {place} spot {spot}"
+    )
 }
 
 // The line of a refusal.
 pub fn refusal_line(heap: Global, fault: Fault) -> Result<String, AllocError>
     ensures { λ r. ⌜ made r (λ s. string-bytes s ≡ refused-text fault) ⌝ }
 {
-    numbered_line(heap, fault.cause.number(), fault.layer.number(), fault.place, fault.spot)
+    numbered_line(
+        heap,
+        fault.cause.number(),
+        fault.layer.number(),
+        fault.place,
+        fault.spot,
+    )
 }
 
 // The line of a verdict.

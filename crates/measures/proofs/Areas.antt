@@ -34,15 +34,15 @@ next-area vs i h =
 pub area-rules : Rules area-largest area
 area-rules = record {
   next-allowed = λ vs i t lawful h b.
-    let e = next-area vs i h in
-    and-from (is-link vs i (i + 1)) _ (grind (arith, tells)) (and-from (leb t area-largest) _ (grind (arith, tells)) (rw e (grind (arith, tells))));
+      let e = next-area vs i h in
+      and-from (is-link vs i (i + 1)) _ (grind (arith, tells)) (and-from (leb t area-largest) _ (grind (arith, tells)) (rw e (grind (arith, tells))));
   stays-allowed = λ vs i j s t lawful h b y.
-    let y0 = and-parts (is-link vs i j) _ y in
-    let y1 = and-parts (leb s area-largest) _ (y0 .1) in
-    and-from (is-link vs i j) _ (y0 .0) (and-from (leb t area-largest) _ (grind (arith, tells)) (leb-rises (link-area vs i j) s t h (y1 .1)));
+      let y0 = and-parts (is-link vs i j) _ y in
+      let y1 = and-parts (leb s area-largest) _ (y0 .1) in
+      and-from (is-link vs i j) _ (y0 .0) (and-from (leb t area-largest) _ (grind (arith, tells)) (leb-rises (link-area vs i j) s t h (y1 .1)));
   links-only = λ vs i j t lawful y.
-    let y0 = and-parts (is-link vs i j) _ y in
-    let y1 = and-parts (leb t area-largest) _ (y0 .1) in
-    let l = and-parts (ltb i j) _ (y0 .0) in
-    (grind (arith, tells), grind (arith, tells), grind (arith, tells));
+      let y0 = and-parts (is-link vs i j) _ y in
+      let y1 = and-parts (leb t area-largest) _ (y0 .1) in
+      let l = and-parts (ltb i j) _ (y0 .0) in
+      (grind (arith, tells), grind (arith, tells), grind (arith, tells));
 }

@@ -67,17 +67,17 @@ vertex-passes near vs i j t k h p y = every-more (tested near vs i j t) (i + 1) 
 pub each-skipped-rules : (largest : ℕ) (near : Vertex → Vertex → Vertex → ℕ → Bool) → Rises near → Rules largest (each-skipped largest near)
 each-skipped-rules largest near rises = record {
   next-allowed = λ vs i t lawful h b.
-    let e : (i + 1) - (i + 1) ≡ 0 = omega arith in
-    rw e (and-from (is-link vs i (i + 1)) _ (grind (arith, tells)) (and-from (leb t largest) true (grind (arith, tells)) refl));
+      let e : (i + 1) - (i + 1) ≡ 0 = omega arith in
+      rw e (and-from (is-link vs i (i + 1)) _ (grind (arith, tells)) (and-from (leb t largest) true (grind (arith, tells)) refl));
   stays-allowed = λ vs i j s t lawful h b y.
-    let y0 = and-parts (is-link vs i j) _ y in
-    let y1 = and-parts (leb s largest) _ (y0 .1) in
-    and-from (is-link vs i j) _ (y0 .0)
-    (and-from (leb t largest) _ (grind (arith, tells))
-    (every-rises (tested near vs i j s) (tested near vs i j t) (i + 1) (j - (i + 1)) (λ k. rises _ _ _ s t h) (y1 .1)));
+      let y0 = and-parts (is-link vs i j) _ y in
+      let y1 = and-parts (leb s largest) _ (y0 .1) in
+      and-from (is-link vs i j) _ (y0 .0)
+      (and-from (leb t largest) _ (grind (arith, tells))
+      (every-rises (tested near vs i j s) (tested near vs i j t) (i + 1) (j - (i + 1)) (λ k. rises _ _ _ s t h) (y1 .1)));
   links-only = λ vs i j t lawful y.
-    let y0 = and-parts (is-link vs i j) _ y in
-    let y1 = and-parts (leb t largest) _ (y0 .1) in
-    let l = and-parts (ltb i j) _ (y0 .0) in
-    (grind (arith, tells), grind (arith, tells), grind (arith, tells));
+      let y0 = and-parts (is-link vs i j) _ y in
+      let y1 = and-parts (leb t largest) _ (y0 .1) in
+      let l = and-parts (ltb i j) _ (y0 .0) in
+      (grind (arith, tells), grind (arith, tells), grind (arith, tells));
 }

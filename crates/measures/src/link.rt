@@ -40,7 +40,15 @@ impl Link {
         let way = Way::between(p, q);
         let length = dot(way, way);
         let reach = t as i64 * t as i64;
-        Link { p, q, t, way, length, reach, limit: reach * length }
+        Link {
+            p,
+            q,
+            t,
+            way,
+            length,
+            reach,
+            limit: reach * length,
+        }
     }
 
     // How far along the link v lies, times the length of the link; below 0 where v lies behind p.

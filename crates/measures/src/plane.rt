@@ -22,7 +22,10 @@ impl Way {
         ensures x { λ r. ⌜ r .x ≡ q .x -ℤ p .x ⌝ }
         ensures y { λ r. ⌜ r .y ≡ q .y -ℤ p .y ⌝ }
     {
-        Way { x: difference(p.x, q.x), y: difference(p.y, q.y) }
+        Way {
+            x: difference(p.x, q.x),
+            y: difference(p.y, q.y),
+        }
     }
 }
 

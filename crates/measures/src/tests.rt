@@ -15,7 +15,14 @@ fn at(x: i16, y: i16) -> Vertex {
 }
 
 // The measure gives this answer for the link i → j of these vertices at the tolerance t.
-fn says<M: Measure>(answer: bool, m: &M, vertices: &[Vertex], i: usize, j: usize, t: u32) -> Result<(), Fail> {
+fn says<M: Measure>(
+    answer: bool,
+    m: &M,
+    vertices: &[Vertex],
+    i: usize,
+    j: usize,
+    t: u32,
+) -> Result<(), Fail> {
     let mut line = Line::built_in();
     line.make(vertices)?;
     check(m.allows(&line, i, j, t) == answer)
@@ -24,7 +31,11 @@ fn says<M: Measure>(answer: bool, m: &M, vertices: &[Vertex], i: usize, j: usize
 // The link 0 → 2 is allowed at the tolerance t and, unless t is 0, not at t - 1.
 fn first_at<M: Measure>(m: &M, vertices: &[Vertex], t: u32) -> Result<(), Fail> {
     says(true, m, vertices, 0, 2, t)?;
-    if t == 0 { Ok(()) } else { says(false, m, vertices, 0, 2, t - 1) }
+    if t == 0 {
+        Ok(())
+    } else {
+        says(false, m, vertices, 0, 2, t - 1)
+    }
 }
 
 #[test]

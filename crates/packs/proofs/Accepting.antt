@@ -128,7 +128,7 @@ module _ (bs : List ℕ) (o : Octets bs) (b c : ℕ) (ra : record-at Numbers 0 b
       let e : 14 + b + 6 ≡ 20 + b = omega arith in
       let f : 14 + b + (6 + c) ≡ 20 + b + c = omega arith in
       record-split-at Levels (14 + b) (14 + b) bs c o rc ∙ ap (λ n. a-record 3 (take c (drop n bs)) ++ drop (14 + b + (6 + c)) bs) e ∙
-          ap (λ n. a-record 3 (take c (drop (20 + b) bs)) ++ drop n bs) f ∙ ap (λ xs. a-record 3 xs ++ drop (20 + b + c) bs) levels-body
+      ap (λ n. a-record 3 (take c (drop (20 + b) bs)) ++ drop n bs) f ∙ ap (λ xs. a-record 3 xs ++ drop (20 + b + c) bs) levels-body
 
   -- what the content says
   head-made : (me : MeasureKind) (pr : PriceKind) → measure-numbered (getD bs 6 0) ≡ Some me → price-numbered (getD bs 7 0) ≡ Some pr →
@@ -230,9 +230,9 @@ module _ (j : Content) (law : Lawful-content j) (rest : List ℕ) where
       let k = law .count in
       let f = levels-length in
       laid-out-by whole 2 (length V) (length L)
-          (record-join Numbers 0 N ((a-record 2 V ++ a-record 3 L) ++ rest) refl (lit< tt))
-          (ap (record-at Vertices 8) at-vertices ∙ record-join Vertices 8 V C vertices-fit (omega arith))
-          (ap (record-at Levels (14 + length V)) at-levels ∙ record-join Levels (14 + length V) L rest levels-fit (omega arith))
+      (record-join Numbers 0 N ((a-record 2 V ++ a-record 3 L) ++ rest) refl (lit< tt))
+      (ap (record-at Vertices 8) at-vertices ∙ record-join Vertices 8 V C vertices-fit (omega arith))
+      (ap (record-at Levels (14 + length V)) at-levels ∙ record-join Levels (14 + length V) L rest levels-fit (omega arith))
 
   abbrev lay : Layout
   lay = laid-out (length V) (length L)
@@ -242,7 +242,7 @@ module _ (j : Content) (law : Lawful-content j) (rest : List ℕ) where
       let e = vertices-length in
       let n : length V / 4 ≡ length (j .vertices) = omega arith in
       ap (λ k. items 4 vertex-from k (drop 14 whole)) n ∙ ap (items 4 vertex-from (length (j .vertices))) in-vertices ∙
-          items-joined 4 vertex-from vertex-bytes In-range vertex-read (λ v. refl) (j .vertices) C (all-from-getD In-range (j .vertices) origin (law .line .1))
+      items-joined 4 vertex-from vertex-bytes In-range vertex-read (λ v. refl) (j .vertices) C (all-from-getD In-range (j .vertices) origin (law .line .1))
 
   small : (i : ℕ) → i < length (j .levels) → Small-level (getD (j .levels) i (level 0 0))
   small i h =
@@ -256,19 +256,19 @@ module _ (j : Content) (law : Lawful-content j) (rest : List ℕ) where
       let e = levels-length in
       let n : length L / 8 ≡ length (j .levels) = omega arith in
       ap (λ k. items 8 level-from k (drop (20 + length V) whole)) n ∙ ap (items 8 level-from (length (j .levels))) in-levels ∙
-          items-joined 8 level-from level-bytes Small-level level-read (λ l. refl) (j .levels) rest (all-from-getD Small-level (j .levels) (level 0 0) small)
+      items-joined 8 level-from level-bytes Small-level level-read (λ l. refl) (j .levels) rest (all-from-getD Small-level (j .levels) (level 0 0) small)
 
   judged-back : judged-content (j .measure) (vertices-in whole lay) (levels-in whole lay) ≡ Ok tt
   judged-back =
       ap (λ vs. judged-content (j .measure) vs (levels-in whole lay)) vertices-back ∙ ap (judged-content (j .measure) (j .vertices)) levels-back ∙
-          then-made _ _ tt (lawful-judged (j .vertices) (law .line)) ∙
-          complete (measure-largest (j .measure)) ContentLayer 1 0 (j .levels) (λ _. omega arith) (law .levels-lawful)
+      then-made _ _ tt (lawful-judged (j .vertices) (law .line)) ∙
+      complete (measure-largest (j .measure)) ContentLayer 1 0 (j .levels) (λ _. omega arith) (law .levels-lawful)
 
   content-back : content-in whole lay ≡ Ok j
   content-back =
       known-made _ _ _ (j .measure) (measure-back (j .measure)) ∙ known-made _ _ _ (j .price) (price-back (j .price)) ∙ then-made _ _ tt judged-back ∙
-          ap (λ vs. Ok (record { measure = j .measure; price = j .price; vertices = vs; levels = levels-in whole lay })) vertices-back ∙
-          ap (λ ls. Ok (record { measure = j .measure; price = j .price; vertices = j .vertices; levels = ls })) levels-back
+      ap (λ vs. Ok (record { measure = j .measure; price = j .price; vertices = vs; levels = levels-in whole lay })) vertices-back ∙
+      ap (λ ls. Ok (record { measure = j .measure; price = j .price; vertices = j .vertices; levels = ls })) levels-back
 
   end-back : lay .end ≡ length (encoded j)
   end-back =

@@ -48,13 +48,13 @@ module _ {X : Type 0} (w : ℕ) (from : List ℕ → X) (to : X → List ℕ) wh
       let b = f x (joined to xs ++ rest) (a .0) in
       let d = drop-at (to x) (joined to xs ++ rest) w (l x) in
       ap (λ bs. items w from (suc (length xs)) bs) e ∙ ap (λ y. y ∷ items w from (length xs) (drop w (to x ++ (joined to xs ++ rest)))) b ∙
-          ap (λ bs. x ∷ items w from (length xs) bs) d ∙ ap (λ ys. x ∷ ys) (items-joined P f l xs rest (a .1))
+      ap (λ bs. x ∷ items w from (length xs) bs) d ∙ ap (λ ys. x ∷ ys) (items-joined P f l xs rest (a .1))
 
 -- vertices
 pub vertex-written : (bs : List ℕ) → Octets bs → 4 ≤ length bs → vertex-bytes (vertex-from bs) ≡ take 4 bs
 vertex-written bs o h =
     ap (λ n. le 2 n ++ le 2 (unsigned (signed (field 2 2 bs)))) (unsigned-signed (field 2 0 bs) (field-small 2 0 bs o)) ∙
-        ap (λ n. le 2 (field 2 0 bs) ++ le 2 n) (unsigned-signed (field 2 2 bs) (field-small 2 2 bs o)) ∙ le-fields 2 2 bs o h
+    ap (λ n. le 2 (field 2 0 bs) ++ le 2 n) (unsigned-signed (field 2 2 bs) (field-small 2 2 bs o)) ∙ le-fields 2 2 bs o h
 
 near : (z : ℤ) → negsuc 16383 ≤ℤ z → z ≤ℤ pos 16383 → mag z < 32768
 near (pos n) a b = omega (arith, ints)
@@ -66,7 +66,7 @@ coordinate-trip z h = ap signed (little-le 2 (unsigned z) (unsigned-small z h)) 
 pub vertex-read : (v : Vertex) (rest : List ℕ) → In-range v → vertex-from (vertex-bytes v ++ rest) ≡ v
 vertex-read v rest r =
     ap (λ x. at x (signed (field 2 0 (le 2 (unsigned (v .y)))))) (coordinate-trip (v .x) (near (v .x) (r .0) (r .1))) ∙
-        ap (λ y. at (v .x) y) (coordinate-trip (v .y) (near (v .y) (r .2) (r .3)))
+    ap (λ y. at (v .x) y) (coordinate-trip (v .y) (near (v .y) (r .2) (r .3)))
 
 -- levels
 pub level-written : (bs : List ℕ) → Octets bs → 8 ≤ length bs → level-bytes (level-from bs) ≡ take 8 bs
@@ -79,7 +79,7 @@ Small-level l = (l .tolerance < 4294967296) × (l .weight < 4294967296)
 pub level-read : (l : Level) (rest : List ℕ) → Small-level l → level-from (level-bytes l ++ rest) ≡ l
 level-read l rest s =
     ap (λ t. record { tolerance = t; weight = field 4 0 (le 4 (l .weight)) }) (little-le 4 (l .tolerance) (s .0)) ∙
-        ap (λ w. record { tolerance = l .tolerance; weight = w }) (little-le 4 (l .weight) (s .1))
+    ap (λ w. record { tolerance = l .tolerance; weight = w }) (little-le 4 (l .weight) (s .1))
 
 -- numbers of w bytes each
 pub number-written : (w : ℕ) (bs : List ℕ) → Octets bs → w ≤ length bs → le w (field w 0 bs) ≡ take w bs

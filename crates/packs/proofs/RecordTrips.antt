@@ -52,7 +52,7 @@ pieces n rest =
     let end : body ++ drop (6 + n) rest ≡ drop 6 rest = ap (λ xs. body ++ xs) (sym (drop-drop n 6 rest)) ∙ take-append-drop n (drop 6 rest) in
     let mid : take 2 (drop 4 rest) ++ drop 6 rest ≡ drop 4 rest = ap (λ xs. take 2 (drop 4 rest) ++ xs) (sym (drop-drop 2 4 rest)) ∙ take-append-drop 2 (drop 4 rest) in
     sym (append-assoc (take 4 rest) (take 2 (drop 4 rest) ++ body) (drop (6 + n) rest) ∙ ap (λ xs. take 4 rest ++ xs)
-        (append-assoc (take 2 (drop 4 rest)) body (drop (6 + n) rest) ∙ ap (λ xs. take 2 (drop 4 rest) ++ xs) end ∙ mid) ∙ take-append-drop 4 rest)
+    (append-assoc (take 2 (drop 4 rest)) body (drop (6 + n) rest) ∙ ap (λ xs. take 2 (drop 4 rest) ++ xs) end ∙ mid) ∙ take-append-drop 4 rest)
 
 -- bytes that begin with a record are that record and the rest
 pub record-split : (due : Due) (at : ℕ) (rest : List ℕ) (n : ℕ) → Octets rest → record-at due at rest ≡ Ok n →
@@ -62,7 +62,7 @@ record-split due at rest n o h =
     let body = take n (drop 6 rest) in
     let p = b .header in
     let e : take 4 rest ≡ le 4 (length body) =
-        sym (le-field 4 0 rest o (omega arith)) ∙ ap (le 4) (b .size ∙ sym (body-length due rest n b)) in
+    sym (le-field 4 0 rest o (omega arith)) ∙ ap (le 4) (b .size ∙ sym (body-length due rest n b)) in
     let k : take 2 (drop 4 rest) ≡ le 2 (kind-of due) = sym (le-field 2 4 rest o (omega arith)) ∙ ap (le 2) (b .kind) in
     pieces n rest ∙ ap (λ xs. (xs ++ (take 2 (drop 4 rest) ++ body)) ++ drop (6 + n) rest) e ∙ ap (λ xs. (le 4 (length body) ++ (xs ++ body)) ++ drop (6 + n) rest) k
 
@@ -71,8 +71,8 @@ pub record-split-at : (due : Due) (place at : ℕ) (bs : List ℕ) (n : ℕ) →
     drop at bs ≡ a-record (kind-of due) (take n (drop (at + 6) bs)) ++ drop (at + (6 + n)) bs
 record-split-at due place at bs n o h =
     record-split due place (drop at bs) n (octets-drop at bs o) h ∙
-        ap (λ xs. a-record (kind-of due) (take n xs) ++ drop (6 + n) (drop at bs)) (drop-drop 6 at bs) ∙
-        ap (λ xs. a-record (kind-of due) (take n (drop (at + 6) bs)) ++ xs) (drop-drop (6 + n) at bs)
+    ap (λ xs. a-record (kind-of due) (take n xs) ++ drop (6 + n) (drop at bs)) (drop-drop 6 at bs) ∙
+    ap (λ xs. a-record (kind-of due) (take n (drop (at + 6) bs)) ++ xs) (drop-drop (6 + n) at bs)
 
 kind-small : (due : Due) → kind-of due < 65536
 kind-small Numbers = lit< tt
@@ -90,7 +90,7 @@ record-join due at body rest f s =
     let e : field 4 0 bs ≡ length body = little-le 4 (length body) s in
     let k : field 2 4 bs ≡ kind-of due = little-le 2 (kind-of due) (kind-small due) in
     cond-true _ _ _ (le-leb 6 (length bs) (omega arith)) ∙ cond-true _ _ _ (eq-eqb _ _ k) ∙ cond-true _ _ _ (ap (fits due) e ∙ f) ∙
-        cond-true _ _ _ (le-leb (6 + field 4 0 bs) (length bs) (omega arith)) ∙ ap Ok e
+    cond-true _ _ _ (le-leb (6 + field 4 0 bs) (length bs) (omega arith)) ∙ ap Ok e
 
 -- what comes after it
 pub record-rest : (kind : ℕ) (body rest : List ℕ) → drop (6 + length body) (a-record kind body ++ rest) ≡ rest

@@ -21,7 +21,13 @@ impl Place {
         ensures vertices { λ r. ⌜ r .vertices ≡ replicate 256 origin ⌝ }
         ensures levels { λ r. ⌜ r .levels ≡ replicate 8 (level 0 0) ⌝ }
     {
-        Place { vertices: [Vertex { x: 0, y: 0 }; 256], levels: [Level { tolerance: 0, weight: 0 }; 8] }
+        Place {
+            vertices: [Vertex { x: 0, y: 0 }; 256],
+            levels: [Level {
+                tolerance: 0,
+                weight: 0,
+            }; 8],
+        }
     }
 
     // Puts vertices and levels into the place; what lies past them stays.

@@ -3,9 +3,9 @@ ghost use Prim.Native.Nat.{_+_, _*_, _/_, _≤_};
 ghost use lib.ListN.{length, take, drop};
 ghost use Rattle.std.specs.Vec.{made};
 ghost use Rattle.packs.specs.Job.{vertex-from, level-from, items, Within, layout-in, vertices-in, levels-in, judged-content, content-in, job-in, head-in, content-of, summed-up, summed-up-to, Accepts-jobs, Accepts-heads, placed-vertices, placed-levels};
+use crate::bytes::u8_at;
 use crate::bytes::u16_at;
 use crate::bytes::u32_at;
-use crate::bytes::u8_at;
 use crate::job::Job;
 use crate::job::Layout;
 use crate::kind::MeasureKind;
@@ -26,7 +26,10 @@ fn vertex_at(bytes: &[u8], at: usize) -> Vertex
     requires { ⌜ at + 4 ≤ length (now bytes) ⌝ }
     ensures { λ r. ⌜ r ≡ vertex-from (drop at (now (bytes .entry))) ⌝ }
 {
-    Vertex { x: u16_at(bytes, at).cast_signed(), y: u16_at(bytes, at + 2).cast_signed() }
+    Vertex {
+        x: u16_at(bytes, at).cast_signed(),
+        y: u16_at(bytes, at + 2).cast_signed(),
+    }
 }
 
 // The level at a place.
@@ -34,7 +37,10 @@ fn level_at(bytes: &[u8], at: usize) -> Level
     requires { ⌜ at + 8 ≤ length (now bytes) ⌝ }
     ensures { λ r. ⌜ r ≡ level-from (drop at (now (bytes .entry))) ⌝ }
 {
-    Level { tolerance: u32_at(bytes, at), weight: u32_at(bytes, at + 4) }
+    Level {
+        tolerance: u32_at(bytes, at),
+        weight: u32_at(bytes, at + 4),
+    }
 }
 
 // Fills `out` with the vertices from a place on.
@@ -65,7 +71,11 @@ fn layout(bytes: &[u8]) -> Result<Layout, Fault>
     body_length(bytes, 0, Due::Numbers)?;
     let vertices = body_length(bytes, 8, Due::Vertices)?;
     let levels = body_length(bytes, 14 + vertices, Due::Levels)?;
-    Ok(Layout { vertices, levels, end: 20 + vertices + levels })
+    Ok(Layout {
+        vertices,
+        levels,
+        end: 20 + vertices + levels,
+    })
 }
 
 // The vertices and levels of the records, in the front of a place.
@@ -76,7 +86,11 @@ fn decode(bytes: &[u8], layout: Layout) -> Place
 {
     let mut place = Place::blank();
     read_vertices(bytes, 14, &mut place.vertices[0..layout.vertices / 4]);
-    read_levels(bytes, 20 + layout.vertices, &mut place.levels[0..layout.levels / 8]);
+    read_levels(
+        bytes,
+        20 + layout.vertices,
+        &mut place.levels[0..layout.levels / 8],
+    );
     place
 }
 
@@ -97,17 +111,32 @@ fn content(bytes: &[u8], layout: Layout, place: &mut Place) -> Result<Job, Fault
     ensures levels { λ _. ⌜ now (place .exit) .levels ≡ placed-levels (content-in (now (bytes .entry)) layout) (now (place .entry) .levels) ⌝ }
 {
     let Some(measure) = MeasureKind::numbered(u8_at(bytes, 6)) else {
-        return Err(Fault { cause: Cause::Unknown, layer: Layer::Content, place: 0, spot: 0 });
+        return Err(Fault {
+            cause: Cause::Unknown,
+            layer: Layer::Content,
+            place: 0,
+            spot: 0,
+        });
     };
     let Some(price) = PriceKind::numbered(u8_at(bytes, 7)) else {
-        return Err(Fault { cause: Cause::Unknown, layer: Layer::Content, place: 1, spot: 0 });
+        return Err(Fault {
+            cause: Cause::Unknown,
+            layer: Layer::Content,
+            place: 1,
+            spot: 0,
+        });
     };
     let n = layout.vertices / 4;
     let m = layout.levels / 8;
     let read = decode(bytes, layout);
     judge(&read.vertices[0..n], &read.levels[0..m], measure)?;
     place.put(&read.vertices[0..n], &read.levels[0..m]);
-    Ok(Job { measure, price, vertices: n, levels: m })
+    Ok(Job {
+        measure,
+        price,
+        vertices: n,
+        levels: m,
+    })
 }
 
 // Reads a job pack into the place. A refusal leaves the place as it stood.
@@ -119,7 +148,12 @@ pub fn read_job(bytes: &[u8], place: &mut Place) -> Result<Job, Fault>
 {
     let layout = layout(bytes)?;
     if layout.end != bytes.len() {
-        return Err(Fault { cause: Cause::LeftOver, layer: Layer::Pack, place: layout.end, spot: 0 });
+        return Err(Fault {
+            cause: Cause::LeftOver,
+            layer: Layer::Pack,
+            place: layout.end,
+            spot: 0,
+        });
     }
     content(bytes, layout, place)
 }

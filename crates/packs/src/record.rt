@@ -56,17 +56,37 @@ pub fn body_length(bytes: &[u8], at: usize, due: Due) -> Result<usize, Fault>
 {
     let left = bytes.len().saturating_sub(at);
     if left < 6 {
-        return Err(Fault { cause: Cause::RunsOut, layer: Layer::Pack, place: at, spot: 0 });
+        return Err(Fault {
+            cause: Cause::RunsOut,
+            layer: Layer::Pack,
+            place: at,
+            spot: 0,
+        });
     }
     if u16_at(bytes, at + 4) != due.kind() {
-        return Err(Fault { cause: Cause::WrongKind, layer: Layer::Pack, place: at, spot: 0 });
+        return Err(Fault {
+            cause: Cause::WrongKind,
+            layer: Layer::Pack,
+            place: at,
+            spot: 0,
+        });
     }
     let size = u32_at(bytes, at);
     if !due.fits(size) {
-        return Err(Fault { cause: Cause::WrongLength, layer: Layer::Pack, place: at, spot: 0 });
+        return Err(Fault {
+            cause: Cause::WrongLength,
+            layer: Layer::Pack,
+            place: at,
+            spot: 0,
+        });
     }
     if left - 6 < size as usize {
-        return Err(Fault { cause: Cause::RunsOut, layer: Layer::Pack, place: at, spot: 0 });
+        return Err(Fault {
+            cause: Cause::RunsOut,
+            layer: Layer::Pack,
+            place: at,
+            spot: 0,
+        });
     }
     Ok(size as usize)
 }

@@ -18,7 +18,9 @@ pub impl Price for Count as CountPrice {
     }
 
     fn join(self, other: Count) -> Count {
-        Count { count: self.count.saturating_add(other.count) }
+        Count {
+            count: self.count.saturating_add(other.count),
+        }
     }
 
     fn not_dearer(self, other: Count) -> bool {
@@ -30,7 +32,11 @@ pub impl Price for Count as CountPrice {
     }
 
     fn of_link(line: &Line, i: usize, j: usize, weight: u32) -> Count {
-        if i < j && j < line.count() { Count { count: weight } } else { Count::neutral() }
+        if i < j && j < line.count() {
+            Count { count: weight }
+        } else {
+            Count::neutral()
+        }
     }
 
     fn form(self) -> (u32, u64) {

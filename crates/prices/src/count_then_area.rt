@@ -16,7 +16,11 @@ impl CountThenArea {
     fn form_area(self) -> u64
         ensures { λ r. ⌜ r ≡ form-of self .1 ⌝ }
     {
-        if self.count == u32::MAX { u64::MAX } else { self.area }
+        if self.count == u32::MAX {
+            u64::MAX
+        } else {
+            self.area
+        }
     }
 }
 
@@ -30,11 +34,15 @@ pub impl Price for CountThenArea as CountThenAreaPrice {
     }
 
     fn join(self, other: CountThenArea) -> CountThenArea {
-        CountThenArea { count: self.count.saturating_add(other.count), area: self.area.saturating_add(other.area) }
+        CountThenArea {
+            count: self.count.saturating_add(other.count),
+            area: self.area.saturating_add(other.area),
+        }
     }
 
     fn not_dearer(self, other: CountThenArea) -> bool {
-        self.count < other.count || self.count == other.count && self.form_area() <= other.form_area()
+        self.count < other.count
+            || self.count == other.count && self.form_area() <= other.form_area()
     }
 
     fn equals(self, other: CountThenArea) -> bool {
@@ -43,7 +51,10 @@ pub impl Price for CountThenArea as CountThenAreaPrice {
 
     fn of_link(line: &Line, i: usize, j: usize, weight: u32) -> CountThenArea {
         if i < j && j < line.count() {
-            CountThenArea { count: weight, area: link_area(line, i, j) }
+            CountThenArea {
+                count: weight,
+                area: link_area(line, i, j),
+            }
         } else {
             CountThenArea::neutral()
         }

@@ -8,7 +8,12 @@ use lines::line::Line;
 use lines::vertex::Vertex;
 use std::test::*;
 
-static VERTICES: [Vertex; 4] = [Vertex { x: 0, y: 0 }, Vertex { x: 2, y: 1 }, Vertex { x: 4, y: 3 }, Vertex { x: 6, y: 0 }];
+static VERTICES: [Vertex; 4] = [
+    Vertex { x: 0, y: 0 },
+    Vertex { x: 2, y: 1 },
+    Vertex { x: 4, y: 3 },
+    Vertex { x: 6, y: 0 },
+];
 
 static WEIGHTS: [u32; 5] = [0, 1, 1000, 1001, 4294967295];
 
@@ -27,17 +32,42 @@ fn joining_stops_at_the_ceilings() -> Result<(), Fail> {
     check_eq(counted(4294967293).join(counted(1)).form(), (4294967294, 0))?;
     check_eq(counted(4294967294).join(counted(1)).form(), (4294967295, 0))?;
     check_eq(counted(4294967294).join(counted(2)).form(), (4294967295, 0))?;
-    check_eq(measured(1, 18446744073709551613).join(measured(2, 1)).form(), (3, 18446744073709551614))?;
-    check_eq(measured(1, 18446744073709551614).join(measured(2, 1)).form(), (3, 18446744073709551615))?;
-    check_eq(measured(1, 18446744073709551614).join(measured(2, 2)).form(), (3, 18446744073709551615))?;
-    check_eq(measured(4294967294, 3).join(measured(1, 4)).form(), (4294967295, 18446744073709551615))?;
-    check_eq(measured(4294967294, 3).join(measured(2, 4)).form(), (4294967295, 18446744073709551615))
+    check_eq(
+        measured(1, 18446744073709551613)
+            .join(measured(2, 1))
+            .form(),
+        (3, 18446744073709551614),
+    )?;
+    check_eq(
+        measured(1, 18446744073709551614)
+            .join(measured(2, 1))
+            .form(),
+        (3, 18446744073709551615),
+    )?;
+    check_eq(
+        measured(1, 18446744073709551614)
+            .join(measured(2, 2))
+            .form(),
+        (3, 18446744073709551615),
+    )?;
+    check_eq(
+        measured(4294967294, 3).join(measured(1, 4)).form(),
+        (4294967295, 18446744073709551615),
+    )?;
+    check_eq(
+        measured(4294967294, 3).join(measured(2, 4)).form(),
+        (4294967295, 18446744073709551615),
+    )
 }
 
 #[test]
 fn neutral_changes_nothing() -> Result<(), Fail> {
     check(counted(7).join(Count::neutral()).equals(counted(7)))?;
-    check(measured(7, 9).join(CountThenArea::neutral()).equals(measured(7, 9)))
+    check(
+        measured(7, 9)
+            .join(CountThenArea::neutral())
+            .equals(measured(7, 9)),
+    )
 }
 
 #[test]
@@ -80,7 +110,10 @@ fn a_pair_that_is_no_link_costs_neutral() -> Result<(), Fail> {
     line.make(&VERTICES)?;
     for pair in &NO_LINKS {
         check_eq(Count::of_link(&line, pair.0, pair.1, 9).form(), (0, 0))?;
-        check_eq(CountThenArea::of_link(&line, pair.0, pair.1, 9).form(), (0, 0))?;
+        check_eq(
+            CountThenArea::of_link(&line, pair.0, pair.1, 9).form(),
+            (0, 0),
+        )?;
     }
     Ok(())
 }

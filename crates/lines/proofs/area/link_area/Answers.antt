@@ -18,9 +18,10 @@ loop-k-again c =
     let i = c .args .i in
     let few : k - i ≤ 256 = omega (arith, c .vertices-vertices .ensures .lawful .0) in
     let a = added _ (c .step-sum .result) (k - i) few (c .loop-k .inv .1) (c .step-sum .ensures .bound) in
-    let e : (k - i) + 1 ≡ k + 1 - i = omega arith in
-    (a .0 ∙ ap₂ _+ℤ_ (c .loop-k .inv .0) (c .step-sum .ensures .value) ∙ sym (walked-more (c .vertices-vertices .result .now) i k (omega arith)),
-    rw (a .0, ← e) (a .1))
+    let e : (k - i) + 1 ≡ k + 1 - i = omega arith in (
+      a .0 ∙ ap₂ _+ℤ_ (c .loop-k .inv .0) (c .step-sum .ensures .value) ∙ sym (walked-more (c .vertices-vertices .result .now) i k (omega arith)),
+      rw (a .0, ← e) (a .1),
+    )
 
 pub returns : need.returns
 returns c =

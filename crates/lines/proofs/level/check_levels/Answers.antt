@@ -16,7 +16,7 @@ returns-then-l-least c =
     let ls = c .args .levels .now in
     let l = getD ls (c .loop-i .i) (level 0 0) in
     let b : (leb (c .loop-i .least) (l .tolerance) && leb (l .tolerance) (c .args .largest)) ≡ false =
-        elim (c .then-l-least .came) [ then-l-least·by·then-l-least w ↦ grind (arith, tells) | then-l-least·by·else-l-least·then-l-largest w ↦ grind (arith, tells) ] in
+    elim (c .then-l-least .came) [ then-l-least·by·then-l-least w ↦ grind (arith, tells) | then-l-least·by·else-l-least·then-l-largest w ↦ grind (arith, tells) ] in
     let e = sym (bad-tolerance (c .args .largest) (c .args .layer) (c .loop-i .least) (c .loop-i .i) ls (c .loop-i-test .taken) b) ∙ c .loop-i .inv .0 in
     record { answer = e; lawful = lawful-from (c .args .largest) (c .args .layer) ls _ e }
 
@@ -25,7 +25,7 @@ returns-then-l-lt1 c =
     let ls = c .args .levels .now in
     let l = getD ls (c .loop-i .i) (level 0 0) in
     let b : (leb 1 (l .weight) && leb (l .weight) 1000) ≡ false =
-        elim (c .then-l-lt1 .came) [ then-l-lt1·by·then-l-lt1 w ↦ grind (arith, tells) | then-l-lt1·by·else-l-lt1·then-l-gt1000 w ↦ grind (arith, tells) ] in
+    elim (c .then-l-lt1 .came) [ then-l-lt1·by·then-l-lt1 w ↦ grind (arith, tells) | then-l-lt1·by·else-l-lt1·then-l-gt1000 w ↦ grind (arith, tells) ] in
     let e = sym (bad-weight (c .args .largest) (c .args .layer) (c .loop-i .least) (c .loop-i .i) ls (c .loop-i-test .taken) (grind (arith, tells)) b) ∙ c .loop-i .inv .0 in
     record { answer = e; lawful = lawful-from (c .args .largest) (c .args .layer) ls _ e }
 

@@ -15,7 +15,7 @@ returns-then-not-in-order c =
     let xs = numbers body in
     let e = length-numbers body in
     let t : in-order (c .args .n) (length xs) (c .loop-i .i) (c .loop-i .low) (getD xs (c .loop-i .i) 0) ≡ false =
-        rw (e, ← c .number-v .ensures .value) (sym (c .if-not-in-order .ensures tt)) in
+    rw (e, ← c .number-v .ensures .value) (sym (c .if-not-in-order .ensures tt)) in
     sym (disorder-here (c .args .n) (length xs) (c .loop-i .low) xs (c .loop-i .i) (omega arith) t) ∙ c .loop-i .inv
 
 pub loop-i-again : need.loop-i-again
@@ -26,7 +26,7 @@ loop-i-again c =
     let e = length-numbers body in
     let v = c .number-v .ensures .value in
     let t : in-order (c .args .n) (length xs) i (c .loop-i .low) (getD xs i 0) ≡ true =
-        rw (e, ← v) (sym (c .if-not-in-order .ensures tt)) in
+    rw (e, ← v) (sym (c .if-not-in-order .ensures tt)) in
     ap (λ x. disorder-from (c .args .n) (length xs) (i + 1) (x + 1) (drop (i + 1) xs)) v
     ∙ sym (disorder-further (c .args .n) (length xs) (c .loop-i .low) xs i (omega arith) t) ∙ c .loop-i .inv
 

@@ -20,9 +20,11 @@ loop-i-holds g c =
     let ls = c .args .levels .now in
     let n = length (now (c .args .line .now .vertices)) in
     let allowed : ℕ → ℕ → ℕ → Bool = λ t i j. g .M·Measure .says (c .args .measure .now) (now (c .args .line .now .vertices)) i j t in
-    let z : length ls - 0 ≡ length ls = omega arith in
-    (ap (λ m. isOk (chains-end n m 0 bs)) z ∙ c .pre, inl refl,
-    ap (λ m. judged-from allowed n 1 (numbers (body-of bs)) (chains-in m bs) ls) z ∙ judged-start allowed n (length ls) bs ls)
+    let z : length ls - 0 ≡ length ls = omega arith in (
+      ap (λ m. isOk (chains-end n m 0 bs)) z ∙ c .pre,
+      inl refl,
+      ap (λ m. judged-from allowed n 1 (numbers (body-of bs)) (chains-in m bs) ls) z ∙ judged-start allowed n (length ls) bs ls,
+    )
 
 pub body-at-body-requires : need.body-at-body-requires
 body-at-body-requires g c κs = inside (length (now (c .args .line .now .vertices))) (length (c .args .levels .now)) (c .loop-i .i) (c .loop-i .at) (c .args .records .now) (c .loop-i-test .taken) (c .loop-i .inv .0)
@@ -66,8 +68,9 @@ loop-i-again g c =
     let s : length (c .body-at-body .result .now) ≡ field 4 0 (drop at bs) = c .body-at-body .ensures .size in
     let e = rw (c .body-at-body .ensures .value, c .body-at .ensures .value) at (c .in-Continue-judge-chain .ensures tt) in
     let h = c .loop-i-test .taken in
-    let ok = c .loop-i .inv .0 in
-    (subst (λ z. isOk (chains-end n (length ls - (i + 1)) (at + 6 + z) (drop (at + 6 + z) bs)) ≡ true) (sym s) (next-sound n (length ls) i at bs h ok),
-    inr (inside n (length ls) i at bs h ok),
-    ap (λ z. judged-from allowed n (i + 1 + 1) (numbers (body-of (drop at bs))) (chains-in (length ls - (i + 1)) (drop (at + 6 + z) bs)) (drop (i + 1) ls)) s
-    ∙ sym (judged-further n (length ls) i at bs h ok ls h allowed (numbers (body-of (drop (c .loop-i .finer) bs))) e) ∙ c .loop-i .inv .2)
+    let ok = c .loop-i .inv .0 in (
+      subst (λ z. isOk (chains-end n (length ls - (i + 1)) (at + 6 + z) (drop (at + 6 + z) bs)) ≡ true) (sym s) (next-sound n (length ls) i at bs h ok),
+      inr (inside n (length ls) i at bs h ok),
+      ap (λ z. judged-from allowed n (i + 1 + 1) (numbers (body-of (drop at bs))) (chains-in (length ls - (i + 1)) (drop (at + 6 + z) bs)) (drop (i + 1) ls)) s
+          ∙ sym (judged-further n (length ls) i at bs h ok ls h allowed (numbers (body-of (drop (c .loop-i .finer) bs))) e) ∙ c .loop-i .inv .2,
+    )

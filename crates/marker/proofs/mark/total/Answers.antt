@@ -42,7 +42,8 @@ loop-level-again g c =
     let h = c .loop-level-test .taken in
     let ok = c .loop-level .inv .0 in
     let hc = subst (λ z. i < z) (sym (length-chains m bs)) h in
-    let here = ap numbers (c .body-at-body .ensures .value) ∙ chain-here n m i at bs h ok cs (c .loop-level .inv .1) hc in
-    (subst (λ z. isOk (chains-end n (m - (i + 1)) (at + 6 + z) (drop (at + 6 + z) bs)) ≡ true) (sym s) (next-sound n m i at bs h ok),
-    ap (λ z. chains-in (m - (i + 1)) (drop (at + 6 + z) bs)) s ∙ chains-further n m i at bs h ok cs (c .loop-level .inv .1) hc,
-    c .join-sum .ensures ∙ ap₂ (K .join) (c .chain-cost .ensures) (c .loop-level .inv .2) ∙ total-more K (g .P·Price .link) vs ls cs i _ here)
+    let here = ap numbers (c .body-at-body .ensures .value) ∙ chain-here n m i at bs h ok cs (c .loop-level .inv .1) hc in (
+      subst (λ z. isOk (chains-end n (m - (i + 1)) (at + 6 + z) (drop (at + 6 + z) bs)) ≡ true) (sym s) (next-sound n m i at bs h ok),
+      ap (λ z. chains-in (m - (i + 1)) (drop (at + 6 + z) bs)) s ∙ chains-further n m i at bs h ok cs (c .loop-level .inv .1) hc,
+      c .join-sum .ensures ∙ ap₂ (K .join) (c .chain-cost .ensures) (c .loop-level .inv .2) ∙ total-more K (g .P·Price .link) vs ls cs i _ here,
+    )

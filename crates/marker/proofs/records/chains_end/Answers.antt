@@ -16,6 +16,8 @@ returns-in-Break-size c =
     }
 
 pub loop-k-again : need.loop-k-again
-loop-k-again c =
-    (sym (end-further (c .args .n) (c .args .m) (c .loop-k .-k) (c .loop-k .at) (c .in-Continue-size .size) (c .args .records .now) (omega arith) (sym (c .in-Continue-size .ensures tt .answer)))
-    ∙ c .loop-k .inv .0, c .in-Continue-size .ensures tt .within)
+loop-k-again c = (
+  sym (end-further (c .args .n) (c .args .m) (c .loop-k .-k) (c .loop-k .at) (c .in-Continue-size .size) (c .args .records .now) (omega arith) (sym (c .in-Continue-size .ensures tt .answer)))
+      ∙ c .loop-k .inv .0,
+  c .in-Continue-size .ensures tt .within,
+)

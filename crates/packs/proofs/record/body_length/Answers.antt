@@ -14,7 +14,8 @@ pub returns-then-u16-at-kind : need.returns-then-u16-at-kind
 returns-then-u16-at-kind c =
     record {
       answer = sym (other-kind (c .args .due) (c .args .at) (c .args .bytes .now) (omega arith) (λ e. c .if-u16-at-kind .taken (c .u16-at .ensures ∙ e ∙ sym (c .kind .ensures))));
-      within = tt; fitting = tt;
+      within = tt;
+      fitting = tt;
     }
 
 pub returns-then-not-fits : need.returns-then-not-fits

@@ -19,9 +19,16 @@ ghost-result c =
     let y = c .between-way .ensures .y in
     let s : d ≡ squared (c .args .p) (c .args .q) = c .dot-length .ensures .value ∙ ap₂ _+ℤ_ (ap₂ _*ℤ_ x x) (ap₂ _*ℤ_ y y) in
     let r = reach-small t (c .pre .1 .1) in
-    let e = reach-is t (c .pre .1 .1) in
-    ((c .pre .0, c .pre .1 .0),
-    ((x, y),
-    (back64 d (omega (arith, c .dot-length .ensures .bound)) ∙ s,
-    (back64 (toZ w64 t *ℤ toZ w64 t) (omega (arith, r)) ∙ e,
-    (times-back (toZ w64 t *ℤ toZ w64 t) d r (c .dot-length .ensures .bound) ∙ ap₂ _*ℤ_ e s, tt)))))
+    let e = reach-is t (c .pre .1 .1) in (
+      (c .pre .0, c .pre .1 .0),
+      (
+        (x, y),
+        (
+          back64 d (omega (arith, c .dot-length .ensures .bound)) ∙ s,
+          (
+            back64 (toZ w64 t *ℤ toZ w64 t) (omega (arith, r)) ∙ e,
+            (times-back (toZ w64 t *ℤ toZ w64 t) d r (c .dot-length .ensures .bound) ∙ ap₂ _*ℤ_ e s, tt),
+          ),
+        ),
+      ),
+    )

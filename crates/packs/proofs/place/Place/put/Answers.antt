@@ -12,6 +12,10 @@ kept ys zs xs e h = simp (length-append, length-drop) (omega (arith, ap length e
 
 pub ghost-self : need.ghost-self
 ghost-self c =
-    let s = c .args .self .now .sized in
-    ((kept _ (c .args .vertices .now) _ (c .copy-from-slice .ensures .after) (omega arith) ∙ s .0,
-    kept _ (c .args .levels .now) _ (c .copy-from-slice-2 .ensures .after) (omega arith) ∙ s .1), tt)
+    let s = c .args .self .now .sized in (
+      (
+        kept _ (c .args .vertices .now) _ (c .copy-from-slice .ensures .after) (omega arith) ∙ s .0,
+        kept _ (c .args .levels .now) _ (c .copy-from-slice-2 .ensures .after) (omega arith) ∙ s .1,
+      ),
+      tt,
+    )
