@@ -1,7 +1,7 @@
 // The marker: accepts exactly the true families.
-pub mod chain;
-pub mod level;
+mod chain;
+mod level;
 pub mod mark;
 pub mod pack;
-pub mod records;
+mod records;
 pub mod verdict;

@@ -27,7 +27,7 @@ use prices::count_then_area::CountThenAreaPrice;
 use prices::price::Price;
 
 // Marks under the price with its number; the answer is the form of the total.
-pub fn mark_priced<M: Measure>(
+fn mark_priced<M: Measure>(
     measure: &M,
     price: PriceKind,
     line: &Line,
