@@ -75,15 +75,14 @@ fn same_form(a: (u32, u64), b: (u32, u64)) -> bool
     a.0 == b.0 && a.1 == b.1
 }
 
-// Marks a family: answers its total, or the first fault.
-pub fn mark<M: Measure, P: Price>(
+// The total of a family, or the first fault.
+fn total_or_fault<M: Measure, P: Price>(
     measure: &M,
     line: &Line,
     levels: &[Level],
     records: &[u8],
 ) -> Result<P, Fault>
-    ensures answer { λ r. ⌜ r ≡ marked (P·Price .kind) (P·Price .link) (M·Measure .largest) (M·Measure .says (now (measure .entry))) (now (now (line .entry) .vertices)) (now (levels .entry)) (now (records .entry)) ⌝ }
-    ensures accepts_exactly_families { λ _. ⌜ Marks-families (P·Price .kind) (P·Price .link) (M·Measure .largest) (M·Measure .says (now (measure .entry))) (now (now (line .entry) .vertices)) (now (levels .entry)) (now (records .entry)) ⌝ }
+    ensures { λ r. ⌜ r ≡ marked (P·Price .kind) (P·Price .link) (M·Measure .largest) (M·Measure .says (now (measure .entry))) (now (now (line .entry) .vertices)) (now (levels .entry)) (now (records .entry)) ⌝ }
 {
     check_count(levels.len(), Layer::Marker)?;
     check_levels(levels, M::largest_tolerance(), Layer::Marker)?;
@@ -102,4 +101,17 @@ pub fn mark<M: Measure, P: Price>(
         });
     }
     Ok(sum)
+}
+
+// Marks a family: answers its total, or the first fault.
+pub fn mark<M: Measure, P: Price>(
+    measure: &M,
+    line: &Line,
+    levels: &[Level],
+    records: &[u8],
+) -> Result<P, Fault>
+    ensures answer { λ r. ⌜ r ≡ marked (P·Price .kind) (P·Price .link) (M·Measure .largest) (M·Measure .says (now (measure .entry))) (now (now (line .entry) .vertices)) (now (levels .entry)) (now (records .entry)) ⌝ }
+    ensures accepts_exactly_families { λ _. ⌜ Marks-families (P·Price .kind) (P·Price .link) (M·Measure .largest) (M·Measure .says (now (measure .entry))) (now (now (line .entry) .vertices)) (now (levels .entry)) (now (records .entry)) ⌝ }
+{
+    total_or_fault(measure, line, levels, records)
 }
