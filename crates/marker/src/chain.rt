@@ -18,7 +18,7 @@ pub(crate) fn number(body: &[u8], i: usize) -> usize
 }
 
 // Whether the chain has the vertex v.
-pub fn has_vertex(body: &[u8], v: usize) -> bool
+pub(crate) fn has_vertex(body: &[u8], v: usize) -> bool
     ensures value { λ r. ⌜ r ≡ has (numbers (now (body .entry))) v ⌝ }
     ensures found_exactly { λ r. ⌜ Decides r (Has (numbers (now (body .entry))) v) ⌝ }
 {
@@ -39,7 +39,7 @@ fn in_order(n: usize, count: usize, i: usize, low: usize, v: usize) -> bool
 }
 
 // The lowest position that is out of order in a chain of a line of n vertices.
-pub fn first_disorder(body: &[u8], n: usize) -> Option<usize>
+pub(crate) fn first_disorder(body: &[u8], n: usize) -> Option<usize>
     ensures { λ r. ⌜ r ≡ disorder n (numbers (now (body .entry))) ⌝ }
 {
     let count = body.len() / 2;
@@ -55,7 +55,7 @@ pub fn first_disorder(body: &[u8], n: usize) -> Option<usize>
 }
 
 // The first position whose vertex the finer chain has not.
-pub fn first_missing(body: &[u8], finer: &[u8]) -> Option<usize>
+pub(crate) fn first_missing(body: &[u8], finer: &[u8]) -> Option<usize>
     ensures { λ r. ⌜ r ≡ missing (numbers (now (finer .entry))) (numbers (now (body .entry))) ⌝ }
 {
     for i in 0..body.len() / 2 {

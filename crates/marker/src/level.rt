@@ -17,7 +17,7 @@ use measures::measure::Measure;
 use prices::price::Price;
 
 // The first position whose link is not allowed at the tolerance t.
-pub fn first_forbidden<M: Measure>(measure: &M, line: &Line, body: &[u8], t: u32) -> Option<usize>
+pub(crate) fn first_forbidden<M: Measure>(measure: &M, line: &Line, body: &[u8], t: u32) -> Option<usize>
     ensures { λ r. ⌜ r ≡ forbidden (λ i j. M·Measure .says (now (measure .entry)) (now (now (line .entry) .vertices)) i j t) (numbers (now (body .entry))) ⌝ }
 {
     for i in 0..(body.len() / 2).saturating_sub(1) {
@@ -29,7 +29,7 @@ pub fn first_forbidden<M: Measure>(measure: &M, line: &Line, body: &[u8], t: u32
 }
 
 // Judges the chain of level k under the next finer one: order, then nesting, then links.
-pub fn judge_chain<M: Measure>(
+pub(crate) fn judge_chain<M: Measure>(
     measure: &M,
     line: &Line,
     body: &[u8],
@@ -67,7 +67,7 @@ pub fn judge_chain<M: Measure>(
 }
 
 // The prices of the chain's links at a weight, joined.
-pub fn chain_cost<P: Price>(line: &Line, body: &[u8], weight: u32) -> P
+pub(crate) fn chain_cost<P: Price>(line: &Line, body: &[u8], weight: u32) -> P
     ensures { λ r. ⌜ r ≡ cost (P·Price .kind) (λ _ i j. P·Price .link (now (now (line .entry) .vertices)) i j weight) 0 (links (numbers (now (body .entry)))) ⌝ }
 {
     let mut sum = P::neutral();

@@ -26,7 +26,7 @@ fn chains_end(records: &[u8], n: usize, m: usize) -> Result<usize, Fault>
 }
 
 // The structure of all records of a family of m levels; it answers where the total's record starts.
-pub fn structure(records: &[u8], n: usize, m: usize) -> Result<usize, Fault>
+pub(crate) fn structure(records: &[u8], n: usize, m: usize) -> Result<usize, Fault>
     ensures { λ r. ⌜ r ≡ structure n m (now (records .entry)) ⌝ }
 {
     let stop = chains_end(records, n, m)?;
