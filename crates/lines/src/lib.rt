@@ -4,4 +4,6 @@ pub mod exact;
 pub mod fault;
 pub mod level;
 pub mod line;
+#[cfg(test)]
+mod tests;
 pub mod vertex;
