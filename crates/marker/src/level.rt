@@ -17,7 +17,12 @@ use measures::measure::Measure;
 use prices::price::Price;
 
 // The first position whose link is not allowed at the tolerance t.
-pub(crate) fn first_forbidden<M: Measure>(measure: &M, line: &Line, body: &[u8], t: u32) -> Option<usize>
+pub(crate) fn first_forbidden<M: Measure>(
+    measure: &M,
+    line: &Line,
+    body: &[u8],
+    t: u32,
+) -> Option<usize>
     ensures { λ r. ⌜ r ≡ forbidden (λ i j. M·Measure .says (now (measure .entry)) (now (now (line .entry) .vertices)) i j t) (numbers (now (body .entry))) ⌝ }
 {
     for i in 0..(body.len() / 2).saturating_sub(1) {

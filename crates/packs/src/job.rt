@@ -1,7 +1,7 @@
 use crate::kind::MeasureKind;
 use crate::kind::PriceKind;
 
-// The structure of a job's three records: body lengths and where the rest starts.
+// The structure of a job's three records: the lengths of the bodies of vertices and levels, and where the rest starts.
 #[derive(Clone, Copy)]
 pub struct Layout {
     pub vertices: usize,
@@ -9,7 +9,7 @@ pub struct Layout {
     pub end: usize,
 }
 
-// A job that was read: its vertices and levels lie in the place that was lent.
+// A job that was read: its measure and price, and how many vertices and levels now lie in the place that was lent.
 #[derive(Clone, Copy)]
 pub struct Job {
     pub measure: MeasureKind,
