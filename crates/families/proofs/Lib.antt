@@ -3,3 +3,14 @@ pub mod Rising
 pub mod Pinning
 pub mod Links
 pub mod Chains
+pub mod Algebra
+pub mod Onward
+pub mod LeastTotal
+pub mod Running
+pub mod Segments
+pub mod NothingSmaller
+pub mod Next
+pub mod FirstLeast
+pub mod Tighter
+pub mod MorePins
+pub mod Stays

@@ -21,6 +21,10 @@ module _ {P : Type 0} (K : Kind P) where
   abbrev pub Same : P → P → Type 0
   Same a b = K .form a ≡ K .form b
 
+  -- the cheaper of two prices: the first, unless it is the dearer
+  abbrev pub cheaper : P → P → P
+  cheaper a b = cond (K .notDearer a b) a b
+
 -- What every kind of price keeps. Equal prices are prices of one form.
 pub record Rules {P : Type 0} (K : Kind P) : Type 0 where
   -- the order is total and transitive, and two prices each not dearer than the other are equal
