@@ -1,4 +1,4 @@
--- Reckoning with prices: `Leq` and `Eqv` are `NotDearer` one way and both ways, as records, so that antt finds the prices. Assumes nothing.
+-- Reckoning with prices: `Leq` and `Eqv` hold `NotDearer` one way and both ways, as records, so that antt finds the prices. Assumes nothing.
 use mathlib.Core.Path.{_≡_, refl, sym, ap}
 use mathlib.Core.Logic.{_⊎_, inl, inr}
 use mathlib.Core.Bool.{Bool, true, false, cond}

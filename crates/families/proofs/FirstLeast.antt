@@ -57,7 +57,8 @@ module _ {P : Type 0} {K : Kind P} (rules : Rules K) (price : ℕ → ℕ → �
       let p = price k (x .0) (x .1) in
       tr rules (join rules (rfl rules p) (cost-append k xs ys)) (sy rules (assoc rules p (cost K price k xs) (cost K price k ys)))
 
-module _ {P : Type 0} {K : Kind P} (rules : Rules K) (price : ℕ → ℕ → ℕ → P) (allowed : ℕ → ℕ → ℕ → Bool) (m n : ℕ) (near : Next-allowed allowed m n) where
+module _ {P : Type 0} {K : Kind P} (rules : Rules K) (price : ℕ → ℕ → ℕ → P) (allowed : ℕ → ℕ → ℕ → Bool) (m n : ℕ)
+    (near : Next-allowed allowed m n) where
   abbrev W : ℕ → ℕ → ℕ → ℕ → List ℕ
   W = walk K price allowed
 
@@ -66,14 +67,17 @@ module _ {P : Type 0} {K : Kind P} (rules : Rules K) (price : ℕ → ℕ → �
 
   walk-rises : (k l : ℕ) → 1 ≤ l → l ≤ k → (i j : ℕ) → i ≤ j → Rises i j (W k l i j)
   walk-rises zero l a b i j h = absurd (omega arith)
-  walk-rises (suc k) l a b i j h = towards j (λ i. Rises i j (W (suc k) l i j)) (rw (walk-end K price allowed (suc k) l j j (omega arith))) (step (decLe l k) (walk-rises k l a)) i h
+  walk-rises (suc k) l a b i j h =
+      towards j (λ i. Rises i j (W (suc k) l i j)) (rw (walk-end K price allowed (suc k) l j j (omega arith)))
+      (step (decLe l k) (walk-rises k l a)) i h
     where
       step : Dec (l ≤ k) → (l ≤ k → (i j : ℕ) → i ≤ j → Rises i j (W k l i j)) →
           (i : ℕ) → i < j → ((v : ℕ) → i < v → v ≤ j → Rises v j (W (suc k) l v j)) → Rises i j (W (suc k) l i j)
       step (yes c) below i h ih =
           let r = next-range K price allowed k i j h in
           rw (walk-low K price allowed k l i j c h)
-          (rises-append i (N k i j) j (W k l i (N k i j)) (W (suc k) l (N k i j) j) (below c i (N k i j) (omega arith)) (ih (N k i j) (r .0) (r .1)))
+          (rises-append i (N k i j) j (W k l i (N k i j)) (W (suc k) l (N k i j) j) (below c i (N k i j) (omega arith))
+          (ih (N k i j) (r .0) (r .1)))
       step (no c) below i h ih =
           let r = next-range K price allowed k i j h in
           let e : suc k ≡ l = omega arith in
@@ -87,7 +91,8 @@ module _ {P : Type 0} {K : Kind P} (rules : Rules K) (price : ℕ → ℕ → �
   walk-fine : (k l : ℕ) → k ≤ m → 1 ≤ l → l ≤ k → (i j : ℕ) → i ≤ j → j ≤ n - 1 → Fine l i (W k l i j)
   walk-fine zero l q a b i j h u = absurd (omega arith)
   walk-fine (suc k) l q a b i j h u =
-      towards j (λ i. Fine l i (W (suc k) l i j)) (rw (walk-end K price allowed (suc k) l j j (omega arith)) tt) (step (decLe l k) (λ c i j h u. walk-fine k l (omega arith) a c i j h u)) i h
+      towards j (λ i. Fine l i (W (suc k) l i j)) (rw (walk-end K price allowed (suc k) l j j (omega arith)) tt)
+      (step (decLe l k) (λ c i j h u. walk-fine k l (omega arith) a c i j h u)) i h
     where
       step : Dec (l ≤ k) → (l ≤ k → (i j : ℕ) → i ≤ j → j ≤ n - 1 → Fine l i (W k l i j)) →
           (i : ℕ) → i < j → ((v : ℕ) → i < v → v ≤ j → Fine l v (W (suc k) l v j)) → Fine l i (W (suc k) l i j)
@@ -96,36 +101,44 @@ module _ {P : Type 0} {K : Kind P} (rules : Rules K) (price : ℕ → ℕ → �
           let r = next-range K price allowed k i j h in
           let p : i ≤ v = omega (arith, r .0) in
           rw (walk-low K price allowed k l i j c h, links-append i v (W k l i v) (W (suc k) l v j) (walk-rises k l a c i v p))
-          (all-append (λ x. T (allowed l (x .0) (x .1))) (links-from i (W k l i v)) (links-from v (W (suc k) l v j)) (below c i v p (omega (arith, r .1))) (ih v (r .0) (r .1)))
+          (all-append (λ x. T (allowed l (x .0) (x .1))) (links-from i (W k l i v)) (links-from v (W (suc k) l v j))
+          (below c i v p (omega (arith, r .1))) (ih v (r .0) (r .1)))
       step (no c) below i h ih =
           let r = next-range K price allowed k i j h in
           let e : suc k ≡ l = omega arith in
           subst (λ l. ((v : ℕ) → i < v → v ≤ j → Fine l v (W (suc k) l v j)) → Fine l i (W (suc k) l i j)) e
-          (λ ih. rw (walk-top K price allowed k i j h) (next-first rules price allowed k i j h (near (suc k) i (omega arith) q (omega arith)) .0, ih (N k i j) (r .0) (r .1))) ih
+          (λ ih. rw (walk-top K price allowed k i j h)
+          (next-first rules price allowed k i j h (near (suc k) i (omega arith) q (omega arith)) .0, ih (N k i j) (r .0) (r .1))) ih
 
   -- a vertex of the walk at level l + 1 is on the walk at level l
   walk-nested : (k l x : ℕ) → 1 ≤ l → l < k → (i j : ℕ) → i ≤ j → Has (W k (suc l) i j) x → Has (W k l i j) x
   walk-nested zero l x a b i j h = absurd (omega arith)
   walk-nested (suc k) l x a b i j h =
-      towards j (λ i. Has (W (suc k) (suc l) i j) x → Has (W (suc k) l i j) x) (rw (walk-end K price allowed (suc k) (suc l) j j (omega arith)) (λ o. absurd o))
+      towards j (λ i. Has (W (suc k) (suc l) i j) x → Has (W (suc k) l i j) x)
+      (rw (walk-end K price allowed (suc k) (suc l) j j (omega arith)) (λ o. absurd o))
       (step (decLt l k) (walk-nested k l x a)) i h
     where
       step : Dec (l < k) → (l < k → (i j : ℕ) → i ≤ j → Has (W k (suc l) i j) x → Has (W k l i j) x) →
-          (i : ℕ) → i < j → ((v : ℕ) → i < v → v ≤ j → Has (W (suc k) (suc l) v j) x → Has (W (suc k) l v j) x) → Has (W (suc k) (suc l) i j) x → Has (W (suc k) l i j) x
+          (i : ℕ) → i < j → ((v : ℕ) → i < v → v ≤ j → Has (W (suc k) (suc l) v j) x → Has (W (suc k) l v j) x) →
+          Has (W (suc k) (suc l) i j) x → Has (W (suc k) l i j) x
       step (yes c) below i h ih =
           let v = N k i j in
           let r = next-range K price allowed k i j h in
           rw (walk-low K price allowed k l i j (omega arith) h, walk-low K price allowed k (suc l) i j c h)
-          (λ o. ⊎-elim (λ p. has-left x (W k l i v) (W (suc k) l v j) (below c i v (omega (arith, r .0)) p)) (λ p. has-right x (W k l i v) (W (suc k) l v j) (ih v (r .0) (r .1) p))
+          (λ o. ⊎-elim (λ p. has-left x (W k l i v) (W (suc k) l v j) (below c i v (omega (arith, r .0)) p))
+          (λ p. has-right x (W k l i v) (W (suc k) l v j) (ih v (r .0) (r .1) p))
           (has-append x (W k (suc l) i v) (W (suc k) (suc l) v j) o))
       step (no c) below i h ih =
           let v = N k i j in
           let r = next-range K price allowed k i j h in
           let e : k ≡ l = omega arith in
-          let top : ((v : ℕ) → i < v → v ≤ j → Has (W (suc k) (suc k) v j) x → Has (W (suc k) k v j) x) → Has (W (suc k) (suc k) i j) x → Has (W (suc k) k i j) x =
+          let top : ((v : ℕ) → i < v → v ≤ j → Has (W (suc k) (suc k) v j) x → Has (W (suc k) k v j) x) →
+          Has (W (suc k) (suc k) i j) x → Has (W (suc k) k i j) x =
           λ ih. rw (walk-low K price allowed k k i j (omega arith) h, walk-top K price allowed k i j h)
           (λ o. ⊎-elim
-          (λ p. has-left x (W k k i v) (W (suc k) k v j) (subst (λ z. Has (W k k i v) z) (sym p) (rises-last i v (W k k i v) (r .0) (walk-rises k k (omega arith) (omega arith) i v (omega (arith, r .0))))))
+          (λ p. has-left x (W k k i v) (W (suc k) k v j)
+          (subst (λ z. Has (W k k i v) z) (sym p)
+          (rises-last i v (W k k i v) (r .0) (walk-rises k k (omega arith) (omega arith) i v (omega (arith, r .0))))))
           (λ p. has-right x (W k k i v) (W (suc k) k v j) (ih v (r .0) (r .1) p)) o) in
           subst (λ l. ((v : ℕ) → i < v → v ≤ j → Has (W (suc k) (suc l) v j) x → Has (W (suc k) l v j) x) → Has (W (suc k) (suc l) i j) x → Has (W (suc k) l i j) x) e top ih
 
@@ -138,7 +151,8 @@ module _ {P : Type 0} {K : Kind P} (rules : Rules K) (price : ℕ → ℕ → �
   total-none (suc h) k j =
       tr rules (join rules (is rules (ap (λ vs. cost K price (suc h) (links-from j vs)) (walk-end K price allowed k (suc h) j j (omega arith)))) (total-none h k j)) (unit-l rules (K .neutral))
 
-  total-low : (h k i j : ℕ) → h ≤ k → i < j → Eqv K (total K price h (F (suc k) i j)) (K .join (total K price h (F k i (N k i j))) (total K price h (F (suc k) (N k i j) j)))
+  total-low : (h k i j : ℕ) → h ≤ k → i < j →
+      Eqv K (total K price h (F (suc k) i j)) (K .join (total K price h (F k i (N k i j))) (total K price h (F (suc k) (N k i j) j)))
   total-low zero k i j a b = sy rules (unit-l rules (K .neutral))
   total-low (suc h) k i j a b =
       let v = N k i j in
@@ -147,7 +161,8 @@ module _ {P : Type 0} {K : Kind P} (rules : Rules K) (price : ℕ → ℕ → �
       let xs = links-from i (W k l i v) in
       let ys = links-from v (W (suc k) l v j) in
       let e : links-from i (W (suc k) l i j) ≡ xs ++ ys =
-      ap (links-from i) (walk-low K price allowed k l i j a b) ∙ links-append i v (W k l i v) (W (suc k) l v j) (walk-rises k l (omega arith) a i v (omega (arith, r .0))) in
+      ap (links-from i) (walk-low K price allowed k l i j a b) ∙
+      links-append i v (W k l i v) (W (suc k) l v j) (walk-rises k l (omega arith) a i v (omega (arith, r .0))) in
       tr rules (join rules (tr rules (is rules (ap (cost K price l) e)) (cost-append rules price l xs ys)) (total-low h k i j (omega arith) b))
       (swap rules (cost K price l xs) (cost K price l ys) (total K price h (F k i v)) (total K price h (F (suc k) v j)))
 
@@ -167,12 +182,14 @@ module _ {P : Type 0} {K : Kind P} (rules : Rules K) (price : ℕ → ℕ → �
           let p = price (suc k) i v in
           let top = cost K price (suc k) (links-from v (W (suc k) (suc k) v j)) in
           tr rules
-          (join rules (is rules (ap (λ vs. cost K price (suc k) (links-from i vs)) (walk-top K price allowed k i j h))) (total-low k k i j (omega arith) h))
+          (join rules (is rules (ap (λ vs. cost K price (suc k) (links-from i vs)) (walk-top K price allowed k i j h)))
+          (total-low k k i j (omega arith) h))
           (tr rules (sy rules (pull rules p (total K price k (F k i v)) top (total K price k (F (suc k) v j))))
           (tr rules (join rules (join rules (rfl rules p) (below i v (omega (arith, r .0)) (omega (arith, r .1)))) (ih v (r .0) (r .1)))
           (next-first rules price allowed k i j h (near (suc k) i (omega arith) q (omega arith)) .1)))
 
-  pub stands : Family allowed m n (first-least K price allowed m n) × Same K (total K price m (first-least K price allowed m n)) (L K price allowed m 0 (n - 1))
+  pub stands : Family allowed m n (first-least K price allowed m n) ×
+      Same K (total K price m (first-least K price allowed m n)) (L K price allowed m 0 (n - 1))
   stands = (
     record {
       chains = λ k a b. (refl, walk-rises m k a b 0 (n - 1) (omega arith));
@@ -183,8 +200,10 @@ module _ {P : Type 0} {K : Kind P} (rules : Rules K) (price : ℕ → ℕ → �
   )
 
   pub is-first : (k i j : ℕ) → k < m → i < j → j < n →
-      (i < N k i j) × (N k i j ≤ j) × T (allowed (suc k) i (N k i j)) × Same K (via K price allowed k i j (N k i j)) (L K price allowed (suc k) i j) ×
-      ((v : ℕ) → i < v → v ≤ j → T (allowed (suc k) i v) → Same K (via K price allowed k i j v) (L K price allowed (suc k) i j) → N k i j ≤ v)
+      (i < N k i j) × (N k i j ≤ j) × T (allowed (suc k) i (N k i j)) ×
+      Same K (via K price allowed k i j (N k i j)) (L K price allowed (suc k) i j) ×
+      ((v : ℕ) → i < v → v ≤ j → T (allowed (suc k) i v) → Same K (via K price allowed k i j v) (L K price allowed (suc k) i j) →
+      N k i j ≤ v)
   is-first k i j a b c =
       let r = next-range K price allowed k i j b in
       let f = next-first rules price allowed k i j b (near (suc k) i (omega arith) a (omega arith)) in

@@ -17,10 +17,12 @@ use Rattle.families.proofs.Tighter.{no-cheaper}
 pub clear-next : (pins : List ℕ) (i : ℕ) → T (clear pins i (suc i))
 clear-next pins i = says-clear pins i (suc i) (λ p o s. absurd (omega (arith, s .0, s .1)))
 
-module _ {P : Type 0} {K : Kind P} (rules : Rules K) (price : ℕ → ℕ → ℕ → P) (allowed : ℕ → ℕ → ℕ → Bool) (m n : ℕ) (near : Next-allowed allowed m n)
+module _ {P : Type 0} {K : Kind P} (rules : Rules K) (price : ℕ → ℕ → ℕ → P) (allowed : ℕ → ℕ → ℕ → Bool) (m n : ℕ)
+    (near : Next-allowed allowed m n)
     (fewer more : List ℕ) (sub : (p : ℕ) → Has fewer p → Has more p) where
   pub more-pins : NotDearer K (L K price (pinned fewer allowed) m 0 (n - 1)) (L K price (pinned more allowed) m 0 (n - 1))
   more-pins =
-      no-cheaper rules price (pinned fewer allowed) (pinned more allowed) m n (λ k i a b c. both (allowed k i (suc i)) (clear more i (suc i)) (near k i a b c) (clear-next more i))
+      no-cheaper rules price (pinned fewer allowed) (pinned more allowed) m n
+      (λ k i a b c. both (allowed k i (suc i)) (clear more i (suc i)) (near k i a b c) (clear-next more i))
       (λ k i j _ _ _ _ t. both (allowed k i j) (clear fewer i j) (left (allowed k i j) (clear more i j) t)
       (says-clear fewer i j (λ p o. clear-says more i j (right (allowed k i j) (clear more i j) t) p (sub p o))))

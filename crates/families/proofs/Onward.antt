@@ -1,4 +1,4 @@
--- Tests, and that `onward` needs no more steps than there are vertices to the end. Assumes nothing.
+-- Tests of order, and that `onward` needs no more steps than there are vertices to the end. Assumes nothing.
 use mathlib.Core.Path.{_≡_, refl, sym, subst, _∙_}
 use mathlib.Core.Bool.{Bool, true, false, cond}
 use Prim.Native.Nat.{ℕ, zero, suc, _-_, _≤_, _<_}

@@ -33,7 +33,8 @@ first-longer test v (suc more) w a b t = go (test v) refl (λ l. first-longer te
 -- none passes before the last
 first-last : (test : ℕ → Bool) (v more : ℕ) → ((w : ℕ) → v ≤ w → w < v + more → ¬ T (test w)) → first test v more ≡ v + more
 first-last test v zero f = sym (add-zero v)
-first-last test v (suc more) f = go (test v) (f v (omega arith) (omega arith)) (first-last test (suc v) more (λ w a b. f w (omega arith) (omega arith)))
+first-last test v (suc more) f =
+    go (test v) (f v (omega arith) (omega arith)) (first-last test (suc v) more (λ w a b. f w (omega arith) (omega arith)))
   where
     go : (x : Bool) → ¬ T x → first test (suc v) more ≡ suc v + more → cond x v (first test (suc v) more) ≡ v + suc more
     go true n e = absurd (n tt)
@@ -47,7 +48,8 @@ module _ {P : Type 0} {K : Kind P} (rules : Rules K) (ok : ℕ → Bool) (f : �
   -- the loop's step: a candidate further on takes over where it is allowed and the best so far is dearer
   pub first-more : (v more : ℕ) → T (ok v) →
       first (attains (cheapest K ok f v (suc more))) v (suc more) ≡
-      cond (ok (v + suc more) && not (K .notDearer (cheapest K ok f v more) (f (v + suc more)))) (v + suc more) (first (attains (cheapest K ok f v more)) v more)
+      cond (ok (v + suc more) && not (K .notDearer (cheapest K ok f v more) (f (v + suc more)))) (v + suc more)
+      (first (attains (cheapest K ok f v more)) v more)
   first-more v more t = go (ok (v + suc more)) refl (K .notDearer (cheapest K ok f v more) (f (v + suc more))) refl
     where
       best : P
@@ -59,7 +61,8 @@ module _ {P : Type 0} {K : Kind P} (rules : Rules K) (ok : ℕ → Bool) (f : �
       kept : first (attains best) v (suc more) ≡ first (attains best) v more
       kept =
           let s = cheapest-at K ok f v more t in
-          first-longer (attains best) v more (s .0) (s .1) (s .2) (both (ok (s .0)) (K .notDearer (f (s .0)) best) (s .3) (is rules (s .4) .from .le))
+          first-longer (attains best) v more (s .0) (s .1) (s .2)
+          (both (ok (s .0)) (K .notDearer (f (s .0)) best) (s .3) (is rules (s .4) .from .le))
 
       go : (a : Bool) → ok x ≡ a → (b : Bool) → K .notDearer best (f x) ≡ b →
           first (attains (cond a (cond b best (f x)) best)) v (suc more) ≡ cond (a && not b) x (first (attains best) v more)

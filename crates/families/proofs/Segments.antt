@@ -51,7 +51,8 @@ module _ {P : Type 0} (K : Kind P) (price : ℕ → ℕ → ℕ → P) where
 module _ {P : Type 0} {K : Kind P} (rules : Rules K) (price : ℕ → ℕ → ℕ → P) where
   none-from : (k i j a e : ℕ) (bs : List ℕ) → Rises a e bs → (j ≤ i) ⊎ (j ≤ a) → Eqv K (seg-from K price k i j a bs) (K .neutral)
   none-from k i j a e [] r h = rfl rules (K .neutral)
-  none-from k i j a e (b ∷ bs) r h = tr rules (join rules (out h (leb i a) refl) (none-from k i j b e bs (r .1) (on h))) (unit-l rules (K .neutral))
+  none-from k i j a e (b ∷ bs) r h =
+      tr rules (join rules (out h (leb i a) refl) (none-from k i j b e bs (r .1) (on h))) (unit-l rules (K .neutral))
     where
       on : (j ≤ i) ⊎ (j ≤ a) → (j ≤ i) ⊎ (j ≤ b)
       on (inl x) = inl x
@@ -67,15 +68,18 @@ module _ {P : Type 0} {K : Kind P} (rules : Rules K) (price : ℕ → ℕ → �
 
   pick-split : (p : P) (i v j a b : ℕ) → a < b → i ≤ v → v ≤ j → (v ≤ a) ⊎ (b ≤ v) →
       Eqv K (pick K (leb i a && leb b j) p) (K .join (pick K (leb i a && leb b v) p) (pick K (leb v a && leb b j) p))
-  pick-split p i v j a b l h g (inl x) = rw (leb-yes i a (omega arith), leb-yes v a x, leb-no b v (omega arith)) (sy rules (unit-l rules (pick K (leb b j) p)))
-  pick-split p i v j a b l h g (inr x) = rw (leb-yes b v x, leb-yes b j (omega arith), leb-no v a (omega arith)) (sy rules (unit-r rules (pick K (leb i a && true) p)))
+  pick-split p i v j a b l h g (inl x) =
+      rw (leb-yes i a (omega arith), leb-yes v a x, leb-no b v (omega arith)) (sy rules (unit-l rules (pick K (leb b j) p)))
+  pick-split p i v j a b l h g (inr x) =
+      rw (leb-yes b v x, leb-yes b j (omega arith), leb-no v a (omega arith)) (sy rules (unit-r rules (pick K (leb i a && true) p)))
 
   split-from : (k i v j a e : ℕ) (bs : List ℕ) → Rises a e bs → i ≤ v → v ≤ j → (v ≤ a) ⊎ Has bs v →
       Eqv K (seg-from K price k i j a bs) (K .join (seg-from K price k i v a bs) (seg-from K price k v j a bs))
   split-from k i v j a e [] r h g o = sy rules (unit-l rules (K .neutral))
   split-from k i v j a e (b ∷ bs) r h g o =
       tr rules (join rules (pick-split (price k a b) i v j a b (r .0) h g (side o)) (split-from k i v j b e bs (r .1) h g (on o)))
-      (swap rules (pick K (leb i a && leb b v) (price k a b)) (pick K (leb v a && leb b j) (price k a b)) (seg-from K price k i v b bs) (seg-from K price k v j b bs))
+      (swap rules (pick K (leb i a && leb b v) (price k a b)) (pick K (leb v a && leb b j) (price k a b)) (seg-from K price k i v b bs)
+      (seg-from K price k v j b bs))
     where
       on : (v ≤ a) ⊎ Has (b ∷ bs) v → (v ≤ b) ⊎ Has bs v
       on (inl x) = let l = r .0 in inl (omega arith)
@@ -92,18 +96,27 @@ module _ {P : Type 0} {K : Kind P} (rules : Rules K) (price : ℕ → ℕ → �
   seg-none k i j n (a ∷ bs) r h = none-from k i j a (n - 1) bs (r .1) (inl h)
 
   -- a chain falls in two at a vertex that is on it
-  pub seg-split : (k i v j n : ℕ) (c : List ℕ) → Chain n c → Has c v → i ≤ v → v ≤ j → Eqv K (seg K price k i j c) (K .join (seg K price k i v c) (seg K price k v j c))
+  pub seg-split : (k i v j n : ℕ) (c : List ℕ) → Chain n c → Has c v → i ≤ v → v ≤ j →
+      Eqv K (seg K price k i j c) (K .join (seg K price k i v c) (seg K price k v j c))
   seg-split k i v j n [] r o h g = absurd r
   seg-split k i v j n (a ∷ bs) r (inl x) h g = split-from k i v j a (n - 1) bs (r .1) h g (inl (omega arith))
   seg-split k i v j n (a ∷ bs) r (inr x) h g = split-from k i v j a (n - 1) bs (r .1) h g (inr x)
 
-  next-from : (Q : ℕ × ℕ → Type 0) (k i j a e : ℕ) (bs : List ℕ) → Rises a e bs → All Q (links-from a bs) → i < j → Has (a ∷ bs) i → Has (a ∷ bs) j →
+  next-from : (Q : ℕ × ℕ → Type 0) (k i j a e : ℕ) (bs : List ℕ) → Rises a e bs → All Q (links-from a bs) → i < j → Has (a ∷ bs) i →
+      Has (a ∷ bs) j →
       (v : ℕ) × (i < v) × (v ≤ j) × Has bs v × Q (i, v) × Eqv K (seg-from K price k i v a bs) (price k i v)
   next-from Q k i j a e [] r q h (inl x) (inl y) = absurd (omega arith)
   next-from Q k i j a e [] r q h (inl x) (inr y) = absurd y
   next-from Q k i j a e [] r q h (inr x) y = absurd x
-  next-from Q k i j a e (b ∷ bs) r q h (inl x) y =
-      (b, omega arith, upto y, inl refl, subst (λ z. Q (z, b)) (sym x) (q .0), subst (λ z. Eqv K (seg-from K price k z b a (b ∷ bs)) (price k z b)) (sym x) first)
+  next-from Q k i j a e (b ∷ bs) r q h (inl x) y = (
+    b,
+    omega arith,
+    upto y,
+    inl refl,
+    subst (λ z. Q (z, b)) (sym x) (q .0),
+    subst
+        (λ z. Eqv K (seg-from K price k z b a (b ∷ bs)) (price k z b)) (sym x) first,
+  )
     where
       upto : Has (a ∷ b ∷ bs) j → b ≤ j
       upto (inl z) = absurd (omega arith)

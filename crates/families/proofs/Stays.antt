@@ -1,4 +1,4 @@
--- The stays of a family say all of it. Assumes nothing.
+-- The stays of a family say all of it, and those of the first least family are least. Assumes nothing.
 use mathlib.Core.Path.{_≡_, refl, sym, ap, ap₂, subst, _∙_}
 use mathlib.Core.Logic.{inl, inr}
 use mathlib.Core.Bool.{Bool, true, false, cond}
@@ -28,7 +28,8 @@ staying-is stays k (suc more) v a e bs r h s f g =
   where
     Rest : Type 0
     Rest = (a : ℕ) (bs : List ℕ) → Rises a e bs → suc v ≤ a →
-        ((w : ℕ) → suc v ≤ w → w ≤ e → k ≤ stays w → Has (a ∷ bs) w) → ((w : ℕ) → Has (a ∷ bs) w → k ≤ stays w) → staying stays k (suc v) more ≡ a ∷ bs
+        ((w : ℕ) → suc v ≤ w → w ≤ e → k ≤ stays w → Has (a ∷ bs) w) → ((w : ℕ) → Has (a ∷ bs) w → k ≤ stays w) →
+        staying stays k (suc v) more ≡ a ∷ bs
 
     out : v < a → Dec (k ≤ stays v) → stays v < k
     out l (yes x) = absurd (omega (arith, rises-least a e v bs r (f v (omega arith) (omega (arith, rises-up a e bs r)) x)))
@@ -38,10 +39,12 @@ staying-is stays k (suc more) v a e bs r h s f g =
     other x y xs l (inl z) = absurd (omega arith)
     other x y xs l (inr z) = z
 
-    tail : v ≡ a → Rest → (bs : List ℕ) → Rises a e bs → ((w : ℕ) → v ≤ w → w ≤ e → k ≤ stays w → Has (a ∷ bs) w) → ((w : ℕ) → Has (a ∷ bs) w → k ≤ stays w) →
+    tail : v ≡ a → Rest → (bs : List ℕ) → Rises a e bs → ((w : ℕ) → v ≤ w → w ≤ e → k ≤ stays w → Has (a ∷ bs) w) →
+        ((w : ℕ) → Has (a ∷ bs) w → k ≤ stays w) →
         staying stays k (suc v) more ≡ bs
     tail q ih [] r f g = let z : more ≡ 0 = omega arith in ap (staying stays k (suc v)) z
-    tail q ih (b ∷ bs) r f g = ih b bs (r .1) (omega (arith, r .0)) (λ w x y z. other w a (b ∷ bs) (omega arith) (f w (omega arith) y z)) (λ w o. g w (inr o))
+    tail q ih (b ∷ bs) r f g =
+        ih b bs (r .1) (omega (arith, r .0)) (λ w x y z. other w a (b ∷ bs) (omega arith) (f w (omega arith) y z)) (λ w o. g w (inr o))
 
     go : Rest → Dec (v < a) → cond (leb k (stays v)) (v ∷ staying stays k (suc v) more) (staying stays k (suc v) more) ≡ a ∷ bs
     go ih (yes l) = rw (leb-no k (stays v) (out l (decLe k (stays v)))) (ih a bs r l (λ w x y z. f w (omega arith) y z) g)
@@ -55,7 +58,8 @@ module _ (allowed : ℕ → ℕ → ℕ → Bool) (m n : ℕ) (chain : ℕ → L
   stay-on zero k v q a b = absurd (omega arith)
   stay-on (suc h) k v q a b = go (stay-on h k v (omega arith) a) (has (chain (suc h)) v) (has-means (chain (suc h)) v .0) b
     where
-      go : (k ≤ stay chain h v → Has (chain k) v) → (x : Bool) → (x ≡ true → Has (chain (suc h)) v) → k ≤ cond x (suc h) (stay chain h v) → Has (chain k) v
+      go : (k ≤ stay chain h v → Has (chain k) v) → (x : Bool) → (x ≡ true → Has (chain (suc h)) v) → k ≤ cond x (suc h) (stay chain h v) →
+          Has (chain k) v
       go ih true f b = through allowed m n chain fam (suc h) v q (f refl) k a b
       go ih false f b = ih b
 
@@ -70,14 +74,16 @@ module _ (allowed : ℕ → ℕ → ℕ → Bool) (m n : ℕ) (chain : ℕ → L
           let q : k ≡ suc h = omega arith in
           absurd (false≢true (sym e ∙ has-means (chain (suc h)) v .1 (subst (λ z. Has (chain z) v) q o)))
 
-read-chain : (n k : ℕ) (stays : ℕ → ℕ) (c : List ℕ) → 1 ≤ n → Chain n c → ((w : ℕ) → w < n → k ≤ stays w → Has c w) → ((w : ℕ) → Has c w → k ≤ stays w) → read-off stays n k ≡ c
+read-chain : (n k : ℕ) (stays : ℕ → ℕ) (c : List ℕ) → 1 ≤ n → Chain n c → ((w : ℕ) → w < n → k ≤ stays w → Has c w) →
+    ((w : ℕ) → Has c w → k ≤ stays w) → read-off stays n k ≡ c
 read-chain n k stays [] h r f g = absurd r
 read-chain n k stays (a ∷ bs) h r f g =
     staying-is stays k n 0 a (n - 1) bs (r .1) (omega arith) (omega arith) (λ w x y z. f w (omega arith) z) g
 
 pub say-all : Stays-say-all
 say-all allowed m n chain h fam k a b =
-    read-chain n k (stay chain m) (chain k) h (fam .chains k a b) (λ w l s. stay-on allowed m n chain fam m k w (omega arith) a s) (λ w o. on-stay allowed m n chain fam m k w a b o)
+    read-chain n k (stay chain m) (chain k) h (fam .chains k a b) (λ w l s. stay-on allowed m n chain fam m k w (omega arith) a s)
+    (λ w o. on-stay allowed m n chain fam m k w a b o)
 
 module _ (n : ℕ) (stays stays′ : ℕ → ℕ) (same : (v : ℕ) → v < n → stays v ≡ stays′ v) where
   pub staying-same : (k more v : ℕ) → v + more ≤ n → staying stays k v more ≡ staying stays′ k v more
@@ -94,15 +100,18 @@ module _ (allowed : ℕ → ℕ → ℕ → Bool) (m n : ℕ) (c d : ℕ → Lis
 
   pub total-same : {P : Type 0} (K : Kind P) (price : ℕ → ℕ → ℕ → P) (h : ℕ) → h ≤ m → total K price h d ≡ total K price h c
   total-same K price zero q = refl
-  total-same K price (suc h) q = ap₂ (K .join) (ap (λ x. cost K price (suc h) (links x)) (same (suc h) (omega arith) q)) (total-same K price h (omega arith))
+  total-same K price (suc h) q =
+      ap₂ (K .join) (ap (λ x. cost K price (suc h) (links x)) (same (suc h) (omega arith) q)) (total-same K price h (omega arith))
 
-module _ {P : Type 0} {K : Kind P} (rules : Rules K) (price : ℕ → ℕ → ℕ → P) (allowed : ℕ → ℕ → ℕ → Bool) (m n : ℕ) (some : 1 ≤ n) (near : Next-allowed allowed m n)
+module _ {P : Type 0} {K : Kind P} (rules : Rules K) (price : ℕ → ℕ → ℕ → P) (allowed : ℕ → ℕ → ℕ → Bool) (m n : ℕ)
+    (some : 1 ≤ n) (near : Next-allowed allowed m n)
     (stays : ℕ → ℕ) (are : (v : ℕ) → v < n → stays v ≡ stay (first-least K price allowed m n) m v) where
   pub stays-least : Family allowed m n (read-off stays n) × Same K (total K price m (read-off stays n)) (L K price allowed m 0 (n - 1))
   stays-least =
       let first = first-least K price allowed m n in
       let r = stands rules price allowed m n near in
-      let same = λ (k : ℕ) (a : 1 ≤ k) (b : k ≤ m). staying-same n stays (stay first m) are k n 0 (omega arith) ∙ say-all allowed m n first some (r .0) k a b in (
+      let same = λ (k : ℕ) (a : 1 ≤ k) (b : k ≤ m). staying-same n stays (stay first m) are k n 0 (omega arith) ∙
+      say-all allowed m n first some (r .0) k a b in (
         family-same allowed m n first (read-off stays n) same (r .0),
         ap (K .form) (total-same allowed m n first (read-off stays n) same K price m (omega arith)) ∙ r .1,
       )

@@ -25,7 +25,7 @@ module _ {P : Type 0} (K : Kind P) where
 
 -- `price k i j` is what the link i → j costs at level k, and `allowed k i j` says whether level k allows it.
 module _ {P : Type 0} (K : Kind P) (price : ℕ → ℕ → ℕ → P) (allowed : ℕ → ℕ → ℕ → Bool) where
-  -- The cheapest way from i to j at level k over one link i → v, the finer levels up to v, and then whatever is further on.
+  -- The cheapest way from i to j at level k: one allowed link i → v, the finer levels below it, and what is further on.
   abbrev pub cheapest-link : ℕ → (ℕ → ℕ → P) → ℕ → ℕ → (ℕ → P) → P
   cheapest-link k below j i further =
       cheapest K (allowed k i) (λ v. K .join (K .join (price k i v) (below i v)) (further v)) (suc i) (j - suc i)
@@ -39,11 +39,11 @@ module _ {P : Type 0} (K : Kind P) (price : ℕ → ℕ → ℕ → P) (allowed 
   abbrev pub via : ℕ → ℕ → ℕ → ℕ → P
   via k i j v = K .join (K .join (price (suc k) i v) (L k i v)) (L (suc k) v j)
 
-  -- The vertex after i on the way to j at level k + 1: the first that an allowed link reaches and over which the least total is paid.
+  -- The vertex after i on the way to j at level k + 1: the first by an allowed link over which the least total is paid.
   abbrev pub next : ℕ → ℕ → ℕ → ℕ
   next k i j = first (λ v. allowed (suc k) i v && K .notDearer (via k i j v) (L (suc k) i j)) (suc i) (j - suc i)
 
-  -- One link of level k + 1 as level l sees it, and then on: the link itself at level k + 1, and its finer vertices at a lower level.
+  -- One link of level k + 1 as level l has it, and then on: its end alone at level k + 1, else its vertices of level l.
   abbrev pub fill : ℕ → ℕ → (ℕ → ℕ → List ℕ) → ℕ → ℕ → (ℕ → List ℕ) → List ℕ
   fill k l below j i further = cond (eqb l (suc k)) (next k i j ∷ []) (below i (next k i j)) ++ further (next k i j)
 

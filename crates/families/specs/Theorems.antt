@@ -87,7 +87,7 @@ Lower-no-cheaper P =
     (low high : ℕ → ℕ) → ((k : ℕ) → 1 ≤ k → k ≤ m → (low k ≤ high k) × (high k ≤ largest)) →
     NotDearer K (L K price (λ k i j. yes (high k) i j) m 0 (n - 1)) (L K price (λ k i j. yes (low k) i j) m 0 (n - 1))
 
--- The first least family goes to the next vertex and on from there at its coarsest level, and fills that link in at each finer one.
+-- The first least family goes to the next vertex and on from there, and each finer level fills that link in.
 abbrev pub First-least-reads : Type 0 → Type 0
 First-least-reads P =
     (K : Kind P) (price : ℕ → ℕ → ℕ → P) (allowed : ℕ → ℕ → ℕ → Bool) →

@@ -1,4 +1,4 @@
-// The theory of chains and families, and of the least total. Each function carries one theorem as its contract, so that its proof is asked for.
+// The theory of chains, families and least totals. Each function carries one theorem as its contract, so that its proof is asked for.
 ghost use Rattle.families.specs.Theorems.{Pins-on-chain, Pins-on-family};
 ghost use Rattle.families.specs.Theorems.{Recurrence, Nothing-smaller, First-least-stands, Next-is-first};
 ghost use Rattle.families.specs.Theorems.{Tighter-is-no-cheaper, More-pins-no-cheaper, Lower-no-cheaper};
@@ -67,7 +67,7 @@ pub fn lower_no_cheaper<P>() -> u8
     0
 }
 
-// The first least family goes to the next vertex and on from there, and fills that link in at each finer level.
+// The first least family goes to the next vertex and on from there, and each finer level fills that link in.
 pub fn first_least_reads<P>() -> u8
     ensures { λ _. ⌜ First-least-reads P ⌝ }
 {
