@@ -1,8 +1,9 @@
 #!/usr/bin/env python3
 """Writes the batch of family packs that `mark_hex` is run on, and the verdicts that it must print.
 
-The verdicts come from the plain marker below, which is written from docs/RULES.md, docs/FORMATS.md and
-docs/REFUSALS.md and shares nothing with the crates. The numbers are drawn from a fixed start, so a second
+The verdicts come from the plain marker below. It follows the same rules as docs/RULES.md, docs/FORMATS.md and
+docs/REFUSALS.md and shares no code with the crates, but the author of the crates wrote it: it finds slips, not a
+rule that was misread in both. The numbers are drawn from a fixed start, so a second
 run writes the same files.
 
     tools/mark_cases.py            writes crates/mark_hex/stdin and crates/mark_hex/stdout
