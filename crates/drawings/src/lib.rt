@@ -1,4 +1,6 @@
 // Drawings: the first least family of a job pack, and its text.
+#![tactic(auto)]
+
 pub mod drawing;
 pub mod pack;
 pub mod text;

@@ -1,4 +1,6 @@
 // The theory of chains, families and least totals. Each function carries one theorem as its contract, so that its proof is asked for.
+#![tactic(auto)]
+
 ghost use Rattle.families.specs.Theorems.{PinsOnChain, PinsOnFamily};
 ghost use Rattle.families.specs.Theorems.{Recurrence, NothingSmaller, FirstLeastStands, NextIsFirst};
 ghost use Rattle.families.specs.Theorems.{TighterIsNoCheaper, MorePinsNoCheaper, LowerNoCheaper};

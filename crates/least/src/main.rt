@@ -1,4 +1,6 @@
 // Reads a job pack from standard input and prints its first least family; a refusal ends with status 1.
+#![tactic(auto)]
+
 use anyhow::anyhow;
 use drawings::drawing::DrawError;
 use drawings::pack::draw_pack;

@@ -1,4 +1,6 @@
 // Lines of vertices, the levels of a job, and the faults by which calls refuse.
+#![tactic(auto)]
+
 pub mod area;
 pub mod exact;
 pub mod fault;

@@ -1,4 +1,6 @@
 // Reads a family pack from standard input and prints its verdict; a refusal ends with status 1.
+#![tactic(auto)]
+
 use anyhow::anyhow;
 use marker::pack::mark_pack;
 use marker::verdict::verdict_line;

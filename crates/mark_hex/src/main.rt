@@ -1,5 +1,7 @@
 // Reads family packs as lines of hexadecimal digits and prints a verdict for each.
-use hex::unhex;
+#![tactic(auto)]
+
+use hexadecimal::unhex;
 use marker::pack::mark_pack;
 use marker::verdict::verdict_line;
 use std::io;

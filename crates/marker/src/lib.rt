@@ -1,4 +1,6 @@
 // The marker: accepts exactly the true families.
+#![tactic(auto)]
+
 mod chain;
 mod level;
 pub mod mark;

@@ -1,4 +1,6 @@
 // Measures: whether a link may stand for the part of the line that it skips.
+#![tactic(auto)]
+
 mod apart;
 pub mod area;
 mod link;

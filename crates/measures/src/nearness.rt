@@ -51,7 +51,7 @@ fn farthest<N: Nearness>(
     requires inside { (Lawful vertices.now) × ((i < j) × ((j < length vertices.now) × (t ≤ 32768))) }
     requires start { span.p ≡ slice_index_or vertices.now i origin }
     requires end { span.q ≡ slice_index_or vertices.now j origin }
-    ensures { Found near vertices.now i j t result }
+    ensures { Found N.near vertices.now i j t result }
 {
     let limit = span.permits(t);
     let mut most = Apart { far: 0, off: 0 };
@@ -86,7 +86,7 @@ fn first_near(span: Span, apart: Apart, levels: &[Level]) -> usize
 
 // The grade of the link from i to j, by one pass over the skipped vertices that stops outside the widest tolerance.
 pub(crate) fn grade<N: Nearness>(line: &Line, levels: &[Level], i: usize, j: usize) -> usize
-    ensures { result ≡ grade (each_skipped 32768 near) line.now.vertices.now levels.now i j }
+    ensures { result ≡ grade (each_skipped 32768 N.near) line.now.vertices.now levels.now i j }
 {
     let vertices = line.vertices();
     if i >= j || j >= vertices.len() {

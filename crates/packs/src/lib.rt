@@ -1,4 +1,6 @@
 // Packs: jobs and families as bytes.
+#![tactic(auto)]
+
 pub mod bytes;
 pub mod job;
 pub mod kind;

@@ -1,4 +1,6 @@
 // The search for the first least family of a line, and reading a family back off its stays.
+#![tactic(auto)]
+
 pub mod chain;
 pub mod least;
 mod stays;

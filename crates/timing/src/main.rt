@@ -2,6 +2,8 @@
 //
 // Arguments: LINES VERTICES LEVELS, and then perhaps `time`. For each measure and price it prints the sums of both numbers of the
 // totals over all lines, and with `time` also how many microseconds grading alone and the whole search took.
+#![tactic(auto)]
+
 mod run;
 mod walk;
 

@@ -9,12 +9,12 @@ pub returns-in-err-make : goal.returns-in-err-make
 returns-in-err-make c =
     absurd (line_made c.args.place.now.vertices c.args.job.vertices c.in-err-make.field-0.0 c.requires.line c.in-err-make.ensures.answer)
 
-pub draw-numbered-requires : goal.draw-numbered-requires
-draw-numbered-requires c =
+pub draw_numbered-requires : goal.draw_numbered-requires
+draw_numbered-requires c =
     let m : c.args.job.levels ≡ c.args.job.levels - 0 = omega arith in
     subst (λ k. Drawable (measure_largest c.args.job.measure) (take k c.args.place.now.levels)) m c.requires.levels
 
 pub returns : goal.returns
 returns c =
     from_parts c.args.job.price (measure_says c.args.job.measure) c.args.place.now.vertices _ c.args.place.now.levels _ c.args.job.vertices c.args.job.levels
-    c.draw-numbered.result (ap (λ x. x.now) c.in-ok-make.ensures.refusal-leaves-line) refl c.draw-numbered.ensures
+    c.draw_numbered.result (ap (λ x. x.now) c.in-ok-make.ensures.refusal_leaves_line) refl c.draw_numbered.ensures

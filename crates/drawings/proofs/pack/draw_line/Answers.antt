@@ -9,17 +9,17 @@ use Rattle.drawings.proofs.pack.draw_line.Goals as goal
 pub returns-in-err-total : goal.returns-in-err-total
 returns-in-err-total g c =
     let able = searchable g.M.Measure.largest c.args.line.now.vertices.now c.args.levels.now _ _ _ c.args.line.now.lawful c.requires
-    (ap length c.as-mut-slice.ensures.value ∙ c.in-ok-grades.ensures)
-    (ap length c.as-mut-slice-2.ensures.value ∙ c.in-ok-prices.ensures)
-    (ap length c.as-mut-slice-3.ensures.value ∙ c.in-ok-stays.ensures) in
-    absurd (false≢true (c.in-err-total.ensures.accepts-exactly-lawful.1 able))
+    (ap length c.as_mut_slice.ensures.value ∙ c.in-ok-grades.ensures)
+    (ap length c.as_mut_slice-2.ensures.value ∙ c.in-ok-prices.ensures)
+    (ap length c.as_mut_slice-3.ensures.value ∙ c.in-ok-stays.ensures) in
+    absurd (false≢true (c.in-err-total.ensures.accepts_exactly_lawful.1 able))
 
 pub returns : goal.returns
 returns g c =
     let vs = c.args.line.now.vertices.now in
     let ls = c.args.levels.now in
-    let memory = c.find-least.new.stays in
-    let whole = with_items_is c.in-ok-stays.stays memory (c.find-least.auto.stays ∙ c.as-mut-slice-3.ensures.len) in
+    let memory = c.find_least.new.stays in
+    let whole = with_items_is c.in-ok-stays.stays memory (c.find_least.auto.stays ∙ c.as_mut_slice-3.ensures.len) in
     record {
       level_count = refl;
       stay_count = omega (

@@ -10,16 +10,16 @@ returns-in-err-job c =
     subst (Draws c.args.bytes.now) (sym (p.1 ∙ ap Err p.2))
     (job_refused c.args.bytes.now c.in-err-job.field-0.0 c.in-err-job.ensures.answer)
 
-pub draw-job-requires : goal.draw-job-requires
-draw-job-requires c =
-    let read = c.read-job.ensures in
-    let place = c.read-job.new.place in
-    let h = job_read c.args.bytes.now c.in-ok-job.job place.vertices _ place.levels _ c.in-ok-job.ensures.answer read.accepts-exactly-lawful-jobs read.vertices read.levels in
+pub draw_job-requires : goal.draw_job-requires
+draw_job-requires c =
+    let read = c.read_job.ensures in
+    let place = c.read_job.new.place in
+    let h = job_read c.args.bytes.now c.in-ok-job.job place.vertices _ place.levels _ c.in-ok-job.ensures.answer read.accepts_exactly_lawful_jobs read.vertices read.levels in
     record { few = h.few; line = line_lawful _ _ _ _ h; levels = drawable _ _ _ _ h }
 
 pub returns : goal.returns
 returns c =
-    let read = c.read-job.ensures in
-    let place = c.read-job.new.place in
-    let h = job_read c.args.bytes.now c.in-ok-job.job place.vertices _ place.levels _ c.in-ok-job.ensures.answer read.accepts-exactly-lawful-jobs read.vertices read.levels in
-    drawn _ _ _ _ h c.draw-job.result c.draw-job.ensures
+    let read = c.read_job.ensures in
+    let place = c.read_job.new.place in
+    let h = job_read c.args.bytes.now c.in-ok-job.job place.vertices _ place.levels _ c.in-ok-job.ensures.answer read.accepts_exactly_lawful_jobs read.vertices read.levels in
+    drawn _ _ _ _ h c.draw_job.result c.draw_job.ensures

@@ -6,5 +6,5 @@ use Rattle.drawings.proofs.text.level_line.Goals as goal
 pub returns : goal.returns
 returns c =
     let chain = c.args.chain.now in
-    let links : c.saturating-sub-links.result ≡ length chain - 1 = c.saturating-sub-links.ensures in
-    c.in-ok-add-vertices.ensures ∙ ap (λ x. x ++ flat_map vertex_text chain) c.in-ok-line.ensures.ok ∙ simp (append_assoc, links)
+    let links : c.saturating_sub-links.result ≡ length chain - 1 = c.saturating_sub-links.ensures in
+    c.in-ok-add_vertices.ensures ∙ ap (λ x. x ++ flat_map vertex_text chain) c.in-ok-line.ensures.ok ∙ simp (append_assoc, links)

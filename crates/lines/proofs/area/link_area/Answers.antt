@@ -29,4 +29,4 @@ returns c =
     let w = ap (λ x. walked vs i (x - i)) e in
     let s = a.0 ∙ ap₂ ◌+ℤ◌ (c.loop-k.invariant.0 ∙ w) c.step-sum-2.ensures.value in
     let v = c.vertices-vertices.ensures.value in
-    c.unsigned-abs.ensures.value ∙ ap nat_abs s ∙ sym (cond-true _ _ 0 l) ∙ ap (λ r. link_area r.now i j) v
+    c.unsigned_abs.ensures.value ∙ ap nat_abs s ∙ sym (cond-true _ _ 0 l) ∙ ap (λ r. link_area r.now i j) v

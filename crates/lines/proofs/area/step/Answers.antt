@@ -15,8 +15,8 @@ second c =
     let g : SFits w16 c.args.p.y = search rules in
     coordinates c.product-2.result c.args.q.x c.args.p.y f g c.product-2.ensures
 
-pub overflow-sub-result : goal.overflow-sub-result
-overflow-sub-result c = minus_fits c.product.result c.product-2.result (omega (arith, (first c).1, (second c).1))
+pub overflow_sub-result : goal.overflow_sub-result
+overflow_sub-result c = minus_fits c.product.result c.product-2.result (omega (arith, (first c).1, (second c).1))
 
 pub returns : goal.returns
 returns c =

@@ -6,19 +6,19 @@ use Rattle.marker.specs.Judge.{first_failing}
 use Rattle.marker.proofs.Numbers.{length_numbers, fails_here, fails_further}
 use Rattle.marker.proofs.chain.first_missing.Goals as goal
 
-pub returns-then-not-has-vertex : goal.returns-then-not-has-vertex
-returns-then-not-has-vertex c =
+pub returns-then-not-has_vertex : goal.returns-then-not-has_vertex
+returns-then-not-has_vertex c =
     let xs = numbers c.args.body.now in
     let finer = numbers c.args.finer.now in
     sym (fails_here (has finer) xs c.loop-i.i 0 (omega (arith, length_numbers c.args.body.now))
-    (sym (ap (has finer) c.number.ensures.value) ∙ sym c.if-not-has-vertex.ensures.value)) ∙ c.loop-i.invariant
+    (sym (ap (has finer) c.number.ensures.value) ∙ sym c.if-not-has_vertex.ensures.value)) ∙ c.loop-i.invariant
 
 pub loop-i-preserved : goal.loop-i-preserved
 loop-i-preserved c =
     let xs = numbers c.args.body.now in
     let finer = numbers c.args.finer.now in
     sym (fails_further (has finer) xs c.loop-i.i 0 (omega (arith, length_numbers c.args.body.now))
-    (sym (ap (has finer) c.number.ensures.value) ∙ sym c.if-not-has-vertex.ensures.value)) ∙ c.loop-i.invariant
+    (sym (ap (has finer) c.number.ensures.value) ∙ sym c.if-not-has_vertex.ensures.value)) ∙ c.loop-i.invariant
 
 pub returns : goal.returns
 returns c =

@@ -11,7 +11,7 @@ pub returns-then-number-v : goal.returns-then-number-v
 returns-then-number-v c =
     let xs = numbers c.args.body.now in
     let e = sym (has_here xs c.loop-i.i c.args.v (omega (arith, length_numbers c.args.body.now)) (sym c.number.ensures.value ∙ c.if-number-v.true)) ∙ c.loop-i.invariant in
-    record { value = e; found-exactly = Decides-at _ _ e (has_means xs c.args.v) }
+    record { value = e; found_exactly = Decides-at _ _ e (has_means xs c.args.v) }
 
 pub loop-i-preserved : goal.loop-i-preserved
 loop-i-preserved c =
@@ -22,4 +22,4 @@ pub returns : goal.returns
 returns c =
     let xs = numbers c.args.body.now in
     let e = sym (at_drop_all (λ ys. has ys c.args.v) xs c.loop-i.i (omega (arith, length_numbers c.args.body.now))) ∙ c.loop-i.invariant in
-    record { value = e; found-exactly = Decides-at _ _ e (has_means xs c.args.v) }
+    record { value = e; found_exactly = Decides-at _ _ e (has_means xs c.args.v) }

@@ -7,19 +7,19 @@ use Rattle.marker.specs.Records.{numbers, body_of, chains_in, chains_end}
 use Rattle.marker.proofs.Stepping.{inside, next_sound, chain_here, chains_further, length_chains, total_more}
 use Rattle.marker.proofs.mark.total.Goals as goal
 
-pub body-at-body-requires : goal.body-at-body-requires
-body-at-body-requires g c =
+pub body_at-body-requires : goal.body_at-body-requires
+body_at-body-requires g c =
     inside (length c.args.line.now.vertices.now) (length c.args.levels.now) c.loop-level.level-index c.loop-level.at c.args.records.now c.loop-level-test.true c.loop-level.invariant.0
 
-pub overflow-add-at : goal.overflow-add-at
-overflow-add-at g c =
+pub overflow_add-at : goal.overflow_add-at
+overflow_add-at g c =
     let h = inside (length c.args.line.now.vertices.now) (length c.args.levels.now) c.loop-level.level-index c.loop-level.at c.args.records.now c.loop-level-test.true c.loop-level.invariant.0 in
     omega arith
 
-pub overflow-add-at-in-loop-level : goal.overflow-add-at-in-loop-level
-overflow-add-at-in-loop-level g c =
+pub overflow_add-at-in-loop-level : goal.overflow_add-at-in-loop-level
+overflow_add-at-in-loop-level g c =
     let h = inside (length c.args.line.now.vertices.now) (length c.args.levels.now) c.loop-level.level-index c.loop-level.at c.args.records.now c.loop-level-test.true c.loop-level.invariant.0 in
-    omega (arith, c.body-at-body.ensures.size)
+    omega (arith, c.body_at-body.ensures.size)
 
 pub loop-level-preserved : goal.loop-level-preserved
 loop-level-preserved g c =
@@ -32,12 +32,12 @@ loop-level-preserved g c =
     let i = c.loop-level.level-index in
     let at = c.loop-level.at in
     let cs = chains_in m bs in
-    let s : length c.body-at-body.result.now ≡ field 4 0 (drop at bs) = c.body-at-body.ensures.size in
+    let s : length c.body_at-body.result.now ≡ field 4 0 (drop at bs) = c.body_at-body.ensures.size in
     let h = c.loop-level-test.true in
     let ok = c.loop-level.invariant.0 in
     let hc = subst (λ z. i < z) (sym (length_chains m bs)) h in
-    let here = ap numbers c.body-at-body.ensures.value ∙ chain_here n m i at bs h ok cs c.loop-level.invariant.1 hc in (
+    let here = ap numbers c.body_at-body.ensures.value ∙ chain_here n m i at bs h ok cs c.loop-level.invariant.1 hc in (
       subst (λ z. is_ok (chains_end n (m - (i + 1)) (at + 6 + z) (drop (at + 6 + z) bs)) ≡ true) (sym s) (next_sound n m i at bs h ok),
       ap (λ z. chains_in (m - (i + 1)) (drop (at + 6 + z) bs)) s ∙ chains_further n m i at bs h ok cs c.loop-level.invariant.1 hc,
-      c.join-sum.ensures ∙ ap₂ K.join c.chain-cost.ensures c.loop-level.invariant.2 ∙ total_more K g.P.Price.link vs ls cs i _ here,
+      c.join-sum.ensures ∙ ap₂ K.join c.chain_cost.ensures c.loop-level.invariant.2 ∙ total_more K g.P.Price.link vs ls cs i _ here,
     )

@@ -4,5 +4,5 @@ use Rattle.marker.proofs.records.body_at.Goals as goal
 
 pub returns : goal.returns
 returns c =
-    let e = body_part c.args.at c.u32-at-size.result c.args.records.now c.u32-at-size.ensures in
+    let e = body_part c.args.at c.u32_at-size.result c.args.records.now c.u32_at-size.ensures in
     record { value = e; size = ap length e ∙ body_length c.args.at c.args.records.now c.requires }

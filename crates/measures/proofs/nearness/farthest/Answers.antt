@@ -17,4 +17,4 @@ loop-k-preserved g c =
     let a = c.apart-apart.result in
     let y = limit_is a _ l.p l.q c.args.t true c.permits-limit.ensures.far c.permits-limit.ensures.off c.if-not-within.ensures in
     vertex_passes g.N.Nearness.near c.args.vertices.now c.args.i c.args.j c.args.t c.loop-k.k a l.p l.q (omega arith)
-    c.requires.start c.requires.end c.apart-apart.ensures c.loop-k.most c.or-more-most.result c.or-more-most.ensures.far c.or-more-most.ensures.off y c.loop-k.invariant
+    c.requires.start c.requires.end c.apart-apart.ensures c.loop-k.most c.or_more-most.result c.or_more-most.ensures.far c.or_more-most.ensures.off y c.loop-k.invariant

@@ -22,8 +22,8 @@ returns-in-Some g c =
     let ls = c.args.levels.now in
     let vs = c.vertices-vertices.result.now in
     let l = c.new-span.result in
-    grade_found 32768 near vs ls c.args.i c.args.j l.p l.q c.in-Some.most c.first-near.result (omega arith) (omega arith)
-    c.new-span.ensures.p c.new-span.ensures.q c.in-Some.ensures.1 c.first-near.ensures ∙
+    grade_found 32768 near vs ls c.args.i c.args.j l.p l.q c.in-Some.most c.first_near.result (omega arith) (omega arith)
+    c.new-span.ensures.p c.new-span.ensures.q c.in-Some.ensures.1 c.first_near.ensures ∙
     ap (λ r. grade (each_skipped 32768 near) r.now ls c.args.i c.args.j) c.vertices-vertices.ensures.value
 
 pub returns-in-None : goal.returns-in-None

@@ -16,8 +16,8 @@ second c =
     let g : SFits w32 c.args.b.x = search rules in
     sides c.product-2.result c.args.a.y c.args.b.x f g c.args.a.short.1 c.args.b.short.0 c.product-2.ensures
 
-pub overflow-sub-result : goal.overflow-sub-result
-overflow-sub-result c = minus_fits c.product.result c.product-2.result (omega (arith, (first c).1, (second c).1))
+pub overflow_sub-result : goal.overflow_sub-result
+overflow_sub-result c = minus_fits c.product.result c.product-2.result (omega (arith, (first c).1, (second c).1))
 
 pub returns : goal.returns
 returns c =

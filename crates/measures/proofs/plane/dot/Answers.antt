@@ -16,8 +16,8 @@ second c =
     let g : SFits w32 c.args.b.y = search rules in
     sides c.product-2.result c.args.a.y c.args.b.y f g c.args.a.short.1 c.args.b.short.1 c.product-2.ensures
 
-pub overflow-add-result : goal.overflow-add-result
-overflow-add-result c = plus_fits c.product.result c.product-2.result (omega (arith, (first c).1, (second c).1))
+pub overflow_add-result : goal.overflow_add-result
+overflow_add-result c = plus_fits c.product.result c.product-2.result (omega (arith, (first c).1, (second c).1))
 
 pub returns : goal.returns
 returns c =

@@ -6,6 +6,6 @@ pub returns : goal.returns
 returns c =
     let bs = c.args.bytes.now in
     let a = field_more 1 c.args.at bs in
-    let b = octet_is c.saturating-add.result bs in
-    let d = stopped 1 c.args.at 1 c.saturating-add.result bs (omega arith) c.saturating-add.ensures in
+    let b = octet_is c.saturating_add.result bs in
+    let d = stopped 1 c.args.at 1 c.saturating_add.result bs (omega arith) c.saturating_add.ensures in
     omega arith

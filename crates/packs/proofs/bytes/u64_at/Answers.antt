@@ -6,5 +6,5 @@ pub returns : goal.returns
 returns c =
     let bs = c.args.bytes.now in
     let a = field_four c.args.at bs in
-    let d = stopped 4 c.args.at 4 c.saturating-add.result bs (omega arith) c.saturating-add.ensures in
+    let d = stopped 4 c.args.at 4 c.saturating_add.result bs (omega arith) c.saturating_add.ensures in
     omega arith

@@ -19,6 +19,6 @@ returns c =
     let l = c.args.layout in
     let old = c.blank-place.result in
     record {
-      vertices = front 4 vertex_from (l.vertices / 4) (drop 14 bs) old.vertices _ _ (omega arith) c.read-vertices.ensures;
-      levels = front 8 level_from (l.levels / 8) (drop _ bs) old.levels _ _ (omega arith) c.read-levels.ensures;
+      vertices = front 4 vertex_from (l.vertices / 4) (drop 14 bs) old.vertices _ _ (omega arith) c.read_vertices.ensures;
+      levels = front 8 level_from (l.levels / 8) (drop _ bs) old.levels _ _ (omega arith) c.read_levels.ensures;
     }

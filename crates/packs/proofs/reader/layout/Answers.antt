@@ -8,6 +8,6 @@ returns c =
     let b = c.in-ok-vertices.vertices in
     let d = c.in-ok-levels.levels in
     record {
-      answer = sym (laid_out_by bs c.in-ok-body-length.field-0 b d (sym c.in-ok-body-length.ensures.answer) (sym c.in-ok-vertices.ensures.answer) (sym c.in-ok-levels.ensures.answer));
+      answer = sym (laid_out_by bs c.in-ok-body_length.field-0 b d (sym c.in-ok-body_length.ensures.answer) (sym c.in-ok-vertices.ensures.answer) (sym c.in-ok-levels.ensures.answer));
       within = within_by bs b d c.in-ok-vertices.ensures.fitting c.in-ok-levels.ensures.fitting c.in-ok-levels.ensures.within;
     }

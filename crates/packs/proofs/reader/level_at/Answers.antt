@@ -6,4 +6,4 @@ use Rattle.packs.proofs.Records.{field_drop}
 use Rattle.packs.proofs.reader.level_at.Goals as goal
 
 pub returns : goal.returns
-returns c = ap₂ level c.u32-at.ensures (c.u32-at-2.ensures ∙ sym (field_drop 4 4 c.args.at c.args.bytes.now))
+returns c = ap₂ level c.u32_at.ensures (c.u32_at-2.ensures ∙ sym (field_drop 4 4 c.args.at c.args.bytes.now))

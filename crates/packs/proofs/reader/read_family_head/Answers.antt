@@ -9,7 +9,7 @@ pub returns-in-err-layout : goal.returns-in-err-layout
 returns-in-err-layout c =
     record {
       answer = search rules;
-      accepts-exactly-lawful-heads = accepts_heads c.args.bytes.now (λ i. (c.type-inv.bytes i).fits);
+      accepts_exactly_lawful_heads = accepts_heads c.args.bytes.now (λ i. (c.type_inv.bytes i).fits);
       vertices = search rules;
       levels = search rules;
     }
@@ -22,7 +22,7 @@ returns-in-err-job c =
     let a = sym c.in-ok-layout.ensures.answer in
     let q = sym (head_content bs l a) in
     record {
-      accepts-exactly-lawful-heads = accepts_heads bs (λ i. (c.type-inv.bytes i).fits);
+      accepts_exactly_lawful_heads = accepts_heads bs (λ i. (c.type_inv.bytes i).fits);
       answer = p.1 ∙ ap Err p.2 ∙ sym (head_summed bs l (Err c.in-err-job.field-0.0) a c.in-err-job.ensures.answer);
       vertices = c.content.ensures.vertices ∙ ap (λ r. placed_vertices r c.args.place.now.vertices) q;
       levels = c.content.ensures.levels ∙ ap (λ r. placed_levels r c.args.place.now.levels) q;
@@ -35,7 +35,7 @@ returns c =
     let a = sym c.in-ok-layout.ensures.answer in
     let q = sym (head_content bs l a) in
     record {
-      accepts-exactly-lawful-heads = accepts_heads bs (λ i. (c.type-inv.bytes i).fits);
+      accepts_exactly_lawful_heads = accepts_heads bs (λ i. (c.type_inv.bytes i).fits);
       answer = sym (head_summed bs l (Ok c.in-ok-job.job) a c.in-ok-job.ensures.answer);
       vertices = c.content.ensures.vertices ∙ ap (λ r. placed_vertices r c.args.place.now.vertices) q;
       levels = c.content.ensures.levels ∙ ap (λ r. placed_levels r c.args.place.now.levels) q;

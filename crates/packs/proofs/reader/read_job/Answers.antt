@@ -8,7 +8,7 @@ pub returns-in-err-layout : goal.returns-in-err-layout
 returns-in-err-layout c =
     record {
       answer = search rules;
-      accepts-exactly-lawful-jobs = accepts_jobs c.args.bytes.now (λ i. (c.type-inv.bytes i).fits);
+      accepts_exactly_lawful_jobs = accepts_jobs c.args.bytes.now (λ i. (c.type_inv.bytes i).fits);
       vertices = search rules;
       levels = search rules;
     }
@@ -17,7 +17,7 @@ pub returns-then-layout-bytes : goal.returns-then-layout-bytes
 returns-then-layout-bytes c =
     record {
       answer = search rules;
-      accepts-exactly-lawful-jobs = accepts_jobs c.args.bytes.now (λ i. (c.type-inv.bytes i).fits);
+      accepts_exactly_lawful_jobs = accepts_jobs c.args.bytes.now (λ i. (c.type_inv.bytes i).fits);
       vertices = search rules;
       levels = search rules;
     }
@@ -26,7 +26,7 @@ pub returns : goal.returns
 returns c =
     let q = sym (job_is c.args.bytes.now c.in-ok-layout.layout (sym c.in-ok-layout.ensures.answer) c.if-layout-bytes.false) in
     record {
-      accepts-exactly-lawful-jobs = accepts_jobs c.args.bytes.now (λ i. (c.type-inv.bytes i).fits);
+      accepts_exactly_lawful_jobs = accepts_jobs c.args.bytes.now (λ i. (c.type_inv.bytes i).fits);
       answer = c.content.ensures.answer ∙ ap summed_up q;
       vertices = c.content.ensures.vertices ∙ ap (λ r. placed_vertices r c.args.place.now.vertices) q;
       levels = c.content.ensures.levels ∙ ap (λ r. placed_levels r c.args.place.now.levels) q;

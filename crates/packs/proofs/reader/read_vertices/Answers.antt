@@ -5,7 +5,7 @@ use Rattle.packs.proofs.Items.{items_written}
 use Rattle.packs.proofs.reader.read_vertices.Goals as goal
 
 pub loop-i-preserved : goal.loop-i-preserved
-loop-i-preserved c = items_written 4 vertex_from c.loop-i.i c.args.at c.args.bytes.now c.loop-i.out c.vertex-at.result (omega arith) c.loop-i.invariant c.vertex-at.ensures
+loop-i-preserved c = items_written 4 vertex_from c.loop-i.i c.args.at c.args.bytes.now c.loop-i.out c.vertex_at.result (omega arith) c.loop-i.invariant c.vertex_at.ensures
 
 pub returns : goal.returns
 returns c =

@@ -6,6 +6,6 @@ use Rattle.packs.proofs.reader.vertex_at.Goals as goal
 
 pub returns : goal.returns
 returns c =
-    ap₂ at (coordinate c.cast-signed.result c.u16-at.result _ c.cast-signed.type-inv c.cast-signed.ensures c.u16-at.ensures)
-    (coordinate c.cast-signed-2.result c.u16-at-2.result _ c.cast-signed-2.type-inv c.cast-signed-2.ensures
-    (c.u16-at-2.ensures ∙ sym (field_drop 2 2 c.args.at c.args.bytes.now)))
+    ap₂ at (coordinate c.cast_signed.result c.u16_at.result _ c.cast_signed.type_inv c.cast_signed.ensures c.u16_at.ensures)
+    (coordinate c.cast_signed-2.result c.u16_at-2.result _ c.cast_signed-2.type_inv c.cast_signed-2.ensures
+    (c.u16_at-2.ensures ∙ sym (field_drop 2 2 c.args.at c.args.bytes.now)))

@@ -14,14 +14,14 @@ returns g c =
     let graded = length c.args.grades.now in
     let priced = length c.args.prices.now in
     let stayed = length c.args.stays.now in
-    let r = c.find-or-fault.result in
-    let t = c.find-or-fault.ensures in
+    let r = c.find_or_fault.result in
+    let t = c.find_or_fault.ensures in
     record {
       answer = t.answer;
-      accepts-exactly-lawful = accepts K price largest says vs ls graded priced stayed r t.answer;
+      accepts_exactly_lawful = accepts K price largest says vs ls graded priced stayed r t.answer;
       nothing_smaller = least_family K price largest says vs ls graded priced stayed g.met.P.Price.rules (g.met.M.Measure.rules c.args.measure.now) c.args.line.now.lawful
-          r t.answer c.find-or-fault.new.grades c.find-or-fault.new.prices c.find-or-fault.new.stays _ t.cells;
+          r t.answer c.find_or_fault.new.grades c.find_or_fault.new.prices c.find_or_fault.new.stays _ t.cells;
       cells = written r _ _ t.cells;
-      rest-kept = t.rest-kept;
-      refusal-leaves-memory = left_alone r _ _ t.cells;
+      rest_kept = t.rest_kept;
+      refusal_leaves_memory = left_alone r _ _ t.cells;
     }

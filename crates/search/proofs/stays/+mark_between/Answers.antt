@@ -5,14 +5,14 @@ use Rattle.tables.specs.Grade.{by_grade}
 use Rattle.search.proofs.Walks.{more_done, more_ahead, more_kept}
 use Rattle.search.proofs.stays.+mark_between.Goals as goal
 
-pub mark-between-requires : goal.mark-between-requires
-mark-between-requires g t c κs within =
+pub mark_between-requires : goal.mark_between-requires
+mark_between-requires g t c κs within =
     let K = g.P.Price.kind in
     let price = price_by g.P.Price.link c.args.line.now.vertices.now c.args.levels.now in
     let allowed = by_grade c.args.grades.now.cells.now c.args.grades.now.n c.args.grades.now.m in
-    let is = c.next-vertex-next.ensures in
+    let is = c.next_vertex-next.ensures in
     let r = next_range K price allowed (c.args.k - 1) c.loop-at.at c.args.j c.loop-at-test.true in
-    let p = c.put-stay.ensures in
+    let p = c.put_stay.ensures in
     let inv = c.loop-at.invariant in (
       search rules,
       (
@@ -26,7 +26,7 @@ mark-between-requires g t c κs within =
               (
                 omega (arith, r.1, is),
                 (
-                  omega (arith, c.put-stay.auto.stays, inv.2),
+                  omega (arith, c.put_stay.auto.stays, inv.2),
                   (
                     c.requires.whole,
                     λ v a b. p.others v (inl b) ∙ inv.5 v (inr (inl a)) ∙ c.requires.none v (omega (arith, inv.0)) (omega (arith, r.1, is)),
@@ -44,7 +44,7 @@ loop-at-smaller g t c =
     let K = g.P.Price.kind in
     let price = price_by g.P.Price.link c.args.line.now.vertices.now c.args.levels.now in
     let allowed = by_grade c.args.grades.now.cells.now c.args.grades.now.n c.args.grades.now.m in
-    let is = c.next-vertex-next.ensures in
+    let is = c.next_vertex-next.ensures in
     let r = next_range K price allowed (c.args.k - 1) c.loop-at.at c.args.j c.loop-at-test.true in
     omega (arith, r.0, r.1, is)
 
@@ -54,14 +54,14 @@ loop-at-preserved g t c =
     let price = price_by g.P.Price.link c.args.line.now.vertices.now c.args.levels.now in
     let allowed = by_grade c.args.grades.now.cells.now c.args.grades.now.n c.args.grades.now.m in
     let k = c.args.k in let i = c.args.i in let j = c.args.j in let at = c.loop-at.at in
-    let x = c.next-vertex-next.result in
-    let is = c.next-vertex-next.ensures in
+    let x = c.next_vertex-next.result in
+    let is = c.next_vertex-next.ensures in
     let r = next_range K price allowed (k - 1) at j c.loop-at-test.true in
-    let p = c.put-stay.ensures in
-    let m = c.mark-between.ensures in
+    let p = c.put_stay.ensures in
+    let m = c.mark_between.ensures in
     let inv = c.loop-at.invariant in
     let entry = c.args.stays.now in
-    let size = c.mark-between.auto.stays ∙ c.put-stay.auto.stays ∙ inv.2 in (
+    let size = c.mark_between.auto.stays ∙ c.put_stay.auto.stays ∙ inv.2 in (
       omega (arith, r.0, is, inv.0),
       omega (arith, r.1, is),
       size,

@@ -4,8 +4,8 @@ use Rattle.tables.specs.Grade.{by_grade}
 use Rattle.search.specs.Walk.{stay_between}
 use Rattle.search.proofs.stays.+mark_between.Given as goal
 
-abbrev pub decreases-mark-between : goal.decreases-mark-between
-decreases-mark-between g l = l.k
+abbrev pub decreases-mark_between : goal.decreases-mark_between
+decreases-mark_between g l = l.k
 
 abbrev pub invariant-loop-at : goal.invariant-loop-at
 invariant-loop-at g l =

@@ -15,4 +15,4 @@ returns g c =
     let i = c.args.i in let j = c.args.j in let v = c.args.v in let k = c.args.k in
     let under = c.get.ensures ∙ reads K price allowed cells n m c.requires.whole (k - 1) i v (omega arith) (omega arith) (omega arith) in
     let rest = c.get-2.ensures ∙ reads K price allowed cells n m c.requires.whole k v j (omega arith) (omega arith) (omega arith) in
-    c.join-2.ensures ∙ ap₂ K.join (c.join.ensures ∙ ap₂ K.join c.of-link-price.ensures under) rest
+    c.join-2.ensures ∙ ap₂ K.join (c.join.ensures ∙ ap₂ K.join c.of_link-price.ensures under) rest

@@ -26,12 +26,12 @@ returns-then-first-k g c =
       outside = search rules;
     }
 
-pub take-row-requires : goal.take-row-requires
-take-row-requires g c =
+pub take_row-requires : goal.take_row-requires
+take_row-requires g c =
     let h = row_after c.args.n c.args.k c.args.i c.args.v (omega arith) in
-    let a = c.row-start-own.ensures.value in
-    let b = c.row-start-from.ensures.value in
-    let d = c.row-start-from.ensures.inside in
+    let a = c.row_start-own.ensures.value in
+    let b = c.row_start-from.ensures.value in
+    let d = c.row_start-from.ensures.inside in
     (omega (arith, h, a, b), omega (arith, d))
 
 pub returns : goal.returns
@@ -39,8 +39,8 @@ returns g c =
     let price = price_by g.P.Price.link c.args.line.now.vertices.now c.args.levels.now in
     let allowed = by_grade c.args.grades.now.cells.now c.args.grades.now.n c.args.grades.now.m in
     let granted = ap (λ r. reaches r c.args.k) (sym c.in-Some.ensures.answer) ∙ leb_yes _ _ c.if-first-k.false in
-    let t = c.take-row.ensures in
+    let t = c.take_row.ensures in
     let r = candidates_taken g.P.Price.kind price allowed c.args.cells.now _ c.args.n c.args.k c.args.i c.args.v
-    c.row-start-own.result c.row-start-from.result c.head-head.result c.row-start-own.ensures.value c.row-start-from.ensures.value
+    c.row_start-own.result c.row_start-from.result c.head-head.result c.row_start-own.ensures.value c.row_start-from.ensures.value
     (omega arith) (omega arith) (omega arith) granted c.requires.before c.head-head.ensures t.inside t.outside in
     record { after = r.0; outside = r.1 }

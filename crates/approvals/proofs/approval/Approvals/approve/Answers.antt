@@ -11,5 +11,5 @@ returns c =
     let is : length (entries a) ≡ a.count = length-take-le a.count a.list (omega arith) in
     record {
       answer = sym (cond-true (ltb (length (entries a)) 64) _ _ (lt-ltb _ 64 (omega arith)));
-      refusal-leaves-approvals = take_more_set a.list a.count _ (omega arith);
+      refusal_leaves_approvals = take_more_set a.list a.count _ (omega arith);
     }

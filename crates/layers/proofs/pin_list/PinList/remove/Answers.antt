@@ -8,7 +8,7 @@ pub returns-in-Some : goal.returns-in-Some
 returns-in-Some c =
     let pins = listed c.args.self.now in
     let v = c.args.v in
-    let list = c.take-out.ensures ∙ c.in-Some.ensures.2 in
+    let list = c.take_out.ensures ∙ c.in-Some.ensures.2 in
     record {
       list = list;
       less = λ d. subst (TakesOut v pins) (sym list) (takes_out v pins d);

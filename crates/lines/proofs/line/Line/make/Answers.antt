@@ -5,25 +5,25 @@ use Rattle.lines.specs.Line.{ranged_from}
 use Rattle.lines.proofs.Lines.{counted, bad_vertex, good_vertex}
 use Rattle.lines.proofs.line.Line.make.Goals as goal
 
-pub returns-then-not-in-range : goal.returns-then-not-in-range
-returns-then-not-in-range c =
+pub returns-then-not-in_range : goal.returns-then-not-in_range
+returns-then-not-in_range c =
     let vs = c.args.vertices.now in
-    let o = c.if-not-in-range.ensures in
+    let o = c.if-not-in_range.ensures in
     let z = sym (bad_vertex c.loop-i.i vs c.loop-i-test.true (sym o.value)) ∙ c.loop-i.invariant.1 ∙ sym (counted vs (omega arith, omega arith)) in
     record {
       answer = z;
-      names-the-first-fault = inr ((omega arith, omega arith), (c.loop-i.i, c.loop-i-test.true, not_from_Decides false o.decides refl, c.loop-i.invariant.0, refl));
-      refusal-leaves-line = refl;
+      names_the_first_fault = inr ((omega arith, omega arith), (c.loop-i.i, c.loop-i-test.true, not_from_Decides false o.decides refl, c.loop-i.invariant.0, refl));
+      refusal_leaves_line = refl;
     }
 
 pub loop-i-preserved : goal.loop-i-preserved
 loop-i-preserved c =
     let vs = c.args.vertices.now in
-    let o = c.if-not-in-range.ensures in
+    let o = c.if-not-in_range.ensures in
     (below_more _ _ c.loop-i.invariant.0 (o.decides.0 refl), sym (good_vertex c.loop-i.i vs c.loop-i-test.true (sym o.value)) ∙ c.loop-i.invariant.1)
 
 pub returns : goal.returns
 returns c =
     let vs = c.args.vertices.now in
     let z = sym (at_drop_all (ranged_from c.loop-i.i) vs c.loop-i.i c.loop-i-test.false) ∙ c.loop-i.invariant.1 ∙ sym (counted vs (omega arith, omega arith)) in
-    record { answer = z; names-the-first-fault = ((omega arith, omega arith), λ i h. c.loop-i.invariant.0 i (omega arith)); refusal-leaves-line = refl }
+    record { answer = z; names_the_first_fault = ((omega arith, omega arith), λ i h. c.loop-i.invariant.0 i (omega arith)); refusal_leaves_line = refl }

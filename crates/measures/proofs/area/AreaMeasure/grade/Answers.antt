@@ -16,11 +16,11 @@ returns-then-i-j c =
 pub returns-then-within : goal.returns-then-within
 returns-then-within c =
     let vs = c.args.line.now.vertices.now in
-    let y = area_is vs c.args.i c.args.j _ c.link-area-area.result true (omega arith) (omega arith) c.link-area-area.ensures c.if-within.ensures in
+    let y = area_is vs c.args.i c.args.j _ c.link_area-area.result true (omega arith) (omega arith) c.link_area-area.ensures c.if-within.ensures in
     level_allows (area vs c.args.i c.args.j) c.args.levels.now c.loop-k.k c.loop-k-test.true c.loop-k.invariant y
 
 pub loop-k-preserved : goal.loop-k-preserved
 loop-k-preserved c =
     let vs = c.args.line.now.vertices.now in
-    let y = area_is vs c.args.i c.args.j _ c.link-area-area.result false (omega arith) (omega arith) c.link-area-area.ensures c.if-within.ensures in
+    let y = area_is vs c.args.i c.args.j _ c.link_area-area.result false (omega arith) (omega arith) c.link_area-area.ensures c.if-within.ensures in
     level_refuses (area vs c.args.i c.args.j) c.args.levels.now c.loop-k.k c.loop-k-test.true c.loop-k.invariant y

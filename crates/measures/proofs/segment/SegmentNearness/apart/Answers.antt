@@ -10,25 +10,25 @@ pub returns-then-along-le0 : goal.returns-then-along-le0
 returns-then-along-le0 c t =
     let l = c.args.span in
     let start : le_z (dot l.p l.q c.args.v) (pos 0) ≡ true =
-    order_back c.along-along.result (pos 0) _ _ true (record { sfits = c.along-along.type-inv }) zero_fits c.along-along.ensures refl c.if-along-le0.true in
-    cond-true _ _ _ start ∙ end_counts l.p c.args.v _ c.from-start.ensures l.p l.q t
+    order_back c.along-along.result (pos 0) _ _ true (record { sfits = c.along-along.type_inv }) zero_fits c.along-along.ensures refl c.if-along-le0.true in
+    cond-true _ _ _ start ∙ end_counts l.p c.args.v _ c.from_start.ensures l.p l.q t
 
 pub returns-then-along-span : goal.returns-then-along-span
 returns-then-along-span c t =
     let l = c.args.span in
     let f : SFits w64 l.length = search rules in
     let start : le_z (dot l.p l.q c.args.v) (pos 0) ≡ false =
-    order_back c.along-along.result (pos 0) _ _ false (record { sfits = c.along-along.type-inv }) zero_fits c.along-along.ensures refl c.if-along-le0.false in
+    order_back c.along-along.result (pos 0) _ _ false (record { sfits = c.along-along.type_inv }) zero_fits c.along-along.ensures refl c.if-along-le0.false in
     let end : le_z (squared l.p l.q) (dot l.p l.q c.args.v) ≡ true =
-    order_back l.length c.along-along.result _ _ true f (record { sfits = c.along-along.type-inv }) l.measured c.along-along.ensures c.if-along-span.true in
-    cond-false _ _ _ start ∙ cond-true _ _ _ end ∙ end_counts l.q c.args.v _ c.from-end.ensures l.p l.q t
+    order_back l.length c.along-along.result _ _ true f (record { sfits = c.along-along.type_inv }) l.measured c.along-along.ensures c.if-along-span.true in
+    cond-false _ _ _ start ∙ cond-true _ _ _ end ∙ end_counts l.q c.args.v _ c.from_end.ensures l.p l.q t
 
 pub returns-else-along-span : goal.returns-else-along-span
 returns-else-along-span c t =
     let l = c.args.span in
     let f : SFits w64 l.length = search rules in
     let start : le_z (dot l.p l.q c.args.v) (pos 0) ≡ false =
-    order_back c.along-along.result (pos 0) _ _ false (record { sfits = c.along-along.type-inv }) zero_fits c.along-along.ensures refl c.if-along-le0.false in
+    order_back c.along-along.result (pos 0) _ _ false (record { sfits = c.along-along.type_inv }) zero_fits c.along-along.ensures refl c.if-along-le0.false in
     let end : le_z (squared l.p l.q) (dot l.p l.q c.args.v) ≡ false =
-    order_back l.length c.along-along.result _ _ false f (record { sfits = c.along-along.type-inv }) l.measured c.along-along.ensures c.if-along-span.false in
-    cond-false _ _ _ start ∙ cond-false _ _ _ end ∙ line_counts l.p l.q c.args.v _ c.off-line.ensures t
+    order_back l.length c.along-along.result _ _ false f (record { sfits = c.along-along.type_inv }) l.measured c.along-along.ensures c.if-along-span.false in
+    cond-false _ _ _ start ∙ cond-false _ _ _ end ∙ line_counts l.p l.q c.args.v _ c.off_line.ensures t

@@ -9,11 +9,11 @@ returns-then-span-eq0 c t =
     let l = c.args.span in
     let z : nat_abs l.length ≡ 0 = search rules in
     let one : eqb (nat_abs (squared l.p l.q)) 0 ≡ true = eq-eqb _ 0 (sym (ap nat_abs l.measured) ∙ z) in
-    cond-true _ _ _ one ∙ end_counts l.p c.args.v _ c.from-start.ensures l.p l.q t
+    cond-true _ _ _ one ∙ end_counts l.p c.args.v _ c.from_start.ensures l.p l.q t
 
 pub returns-else-span-eq0 : goal.returns-else-span-eq0
 returns-else-span-eq0 c t =
     let l = c.args.span in
     let z : nat_abs l.length ≡ 0 → ⊥ = search rules in
     let two : eqb (nat_abs (squared l.p l.q)) 0 ≡ false = ne_eqb _ 0 (λ e. z (ap nat_abs l.measured ∙ e)) in
-    cond-false _ _ _ two ∙ line_counts l.p l.q c.args.v _ c.off-line.ensures t
+    cond-false _ _ _ two ∙ line_counts l.p l.q c.args.v _ c.off_line.ensures t

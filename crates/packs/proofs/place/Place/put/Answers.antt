@@ -6,12 +6,12 @@ use Rattle.packs.proofs.place.Place.put.Goals as goal
 kept : {X : Type 0} (ys zs xs : List X) → ys ≡ zs → length zs ≤ length xs → length (ys ++ post_of 0 (length zs - 0) xs) ≡ length xs
 kept ys zs xs e h = simp (length-append, length-drop) (omega (arith, ap length e))
 
-pub invariant-of-self : goal.invariant-of-self
-invariant-of-self c =
+pub invariant_of-self : goal.invariant_of-self
+invariant_of-self c =
     let s = c.args.self.now.sized in (
       (
-        kept _ c.args.vertices.now _ c.copy-from-slice.ensures.after (omega arith) ∙ s.0,
-        kept _ c.args.levels.now _ c.copy-from-slice-2.ensures.after (omega arith) ∙ s.1,
+        kept _ c.args.vertices.now _ c.copy_from_slice.ensures.after (omega arith) ∙ s.0,
+        kept _ c.args.levels.now _ c.copy_from_slice-2.ensures.after (omega arith) ∙ s.1,
       ),
       tt,
     )

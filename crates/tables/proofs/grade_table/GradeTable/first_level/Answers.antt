@@ -9,7 +9,7 @@ returns c =
     let n = c.args.self.now.n in
     let m = c.args.self.now.m in
     record {
-      answer = c.level-at.ensures;
-      tells-first-level = subst (λ r. TellsFirstLevel cells n m c.args.i c.args.j r) (sym c.level-at.ensures)
+      answer = c.level_at.ensures;
+      tells_first_level = subst (λ r. TellsFirstLevel cells n m c.args.i c.args.j r) (sym c.level_at.ensures)
           (tells cells n m c.args.i c.args.j);
     }

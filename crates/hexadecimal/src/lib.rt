@@ -1,7 +1,9 @@
 // Hexadecimal text to bytes.
+#![tactic(auto)]
+
 ghost use Rattle.std.specs.Prelude.{◌≡◌, ◌≤◌, IfOk, vec_items};
 ghost use Rattle.std.specs.Option.{option_map};
-ghost use Rattle.hex.specs.Hex.{digit_value, unhexed};
+ghost use Rattle.hexadecimal.specs.Hex.{digit_value, unhexed};
 
 use std::alloc::{AllocError, Global};
 

@@ -3,7 +3,7 @@ use Rattle.std.proofs.Common.{◌≡◌, ℕ, zero, suc, ◌+◌, ◌-◌, ◌*�
 use Rattle.std.specs.Option.{option_map}
 use Rattle.std.proofs.lemmas.List.{drop-drop, get_or-drop, append_assoc}
 use Rattle.std.proofs.lemmas.Bool.{cond-true, and_left, and_right, and_from, lt-ltb, le-ltb}
-use Rattle.hex.specs.Hex.{digit_value, bytes_of}
+use Rattle.hexadecimal.specs.Hex.{digit_value, bytes_of}
 
 -- what is still to come, behind what was read
 abbrev pub behind : List ℕ → Option (List ℕ) → Option (List ℕ)

@@ -1,8 +1,8 @@
 use Rattle.std.proofs.Common.{◌≡◌, ◌+◌, ◌-◌, ◌*◌, ◌/◌, ◌%◌, length, drop, vec_items, sym, ap, ◌∙◌, inl, inr, ⊎_elim, arith}
 use Rattle.std.proofs.lemmas.Bool.{cond-true, eq-eqb}
-use Rattle.hex.specs.Hex.{bytes_of}
-use Rattle.hex.proofs.Digits.{behind, no_digit, one_byte}
-use Rattle.hex.proofs.unhex.Goals as goal
+use Rattle.hexadecimal.specs.Hex.{bytes_of}
+use Rattle.hexadecimal.proofs.Digits.{behind, no_digit, one_byte}
+use Rattle.hexadecimal.proofs.unhex.Goals as goal
 
 pub returns-then-high-ge16 : goal.returns-then-high-ge16
 returns-then-high-ge16 c =
