@@ -74,8 +74,8 @@ fn check_search<M: Measure>(
 // Fills the price table by what the grades allow.
 fn fill_prices<P: Price>(line: &Line, levels: &[Level], grades: &GradeTable, prices: &mut [P])
     requires { (length levels.now ≤ 8) × (length levels.now * (length line.now.vertices.now * length line.now.vertices.now) ≤ length prices.old) }
-    ensures filled { TableHolds kind (price_by link line.now.vertices.now levels.now) (by_grade grades.now.cells.now grades.now.n grades.now.m) prices.new (length line.now.vertices.now) (length levels.now) }
-    ensures outside { KeptOutside kind prices.old prices.new 0 (length levels.now * (length line.now.vertices.now * length line.now.vertices.now)) }
+    ensures filled { TableHolds P.kind (price_by P.link line.now.vertices.now levels.now) (by_grade grades.now.cells.now grades.now.n grades.now.m) prices.new (length line.now.vertices.now) (length levels.now) }
+    ensures outside { KeptOutside P.kind prices.old prices.new 0 (length levels.now * (length line.now.vertices.now * length line.now.vertices.now)) }
 {
     let mut table = PriceTable::over(prices, line.count());
     table.fill(line, levels, grades);
@@ -90,9 +90,9 @@ fn mark_and_total<P: Price>(
     stays: &mut [u8],
 ) -> P
     requires room { (1 ≤ length levels.now) × ((length levels.now ≤ 8) × (length line.now.vertices.now ≤ length stays.old)) }
-    requires filled { TableHolds kind (price_by link line.now.vertices.now levels.now) (by_grade grades.now.cells.now grades.now.n grades.now.m) prices.old (length line.now.vertices.now) (length levels.now) }
-    ensures total { result ≡ L kind (price_by link line.now.vertices.now levels.now) (by_grade grades.now.cells.now grades.now.n grades.now.m) (length levels.now) 0 (length line.now.vertices.now - 1) }
-    ensures inside { (v : ℕ) → v < length line.now.vertices.now → slice_index stays.new v ≡ stay (first_least kind (price_by link line.now.vertices.now levels.now) (by_grade grades.now.cells.now grades.now.n grades.now.m) (length levels.now) (length line.now.vertices.now)) (length levels.now) v }
+    requires filled { TableHolds P.kind (price_by P.link line.now.vertices.now levels.now) (by_grade grades.now.cells.now grades.now.n grades.now.m) prices.old (length line.now.vertices.now) (length levels.now) }
+    ensures total { result ≡ L P.kind (price_by P.link line.now.vertices.now levels.now) (by_grade grades.now.cells.now grades.now.n grades.now.m) (length levels.now) 0 (length line.now.vertices.now - 1) }
+    ensures inside { (v : ℕ) → v < length line.now.vertices.now → slice_index stays.new v ≡ stay (first_least P.kind (price_by P.link line.now.vertices.now levels.now) (by_grade grades.now.cells.now grades.now.n grades.now.m) (length levels.now) (length line.now.vertices.now)) (length levels.now) v }
     ensures outside { (v : ℕ) → length line.now.vertices.now ≤ v → slice_index stays.new v ≡ slice_index stays.old v }
     ensures prices { prices.new ≡ prices.old }
 {

@@ -36,8 +36,8 @@ fn candidate<P: Price>(
 ) -> P
     requires level { (1 ≤ k) × (k ≤ length levels.now) }
     requires ends { (i < v) × ((v ≤ j) × (j < prices.now.n)) }
-    requires whole { TableHolds kind (price_by link line.now.vertices.now levels.now) (by_grade grades.now.cells.now grades.now.n grades.now.m) prices.now.cells.now prices.now.n (length levels.now) }
-    ensures { result ≡ candidate kind (price_by link line.now.vertices.now levels.now) (by_grade grades.now.cells.now grades.now.n grades.now.m) k i j v }
+    requires whole { TableHolds P.kind (price_by P.link line.now.vertices.now levels.now) (by_grade grades.now.cells.now grades.now.n grades.now.m) prices.now.cells.now prices.now.n (length levels.now) }
+    ensures { result ≡ candidate P.kind (price_by P.link line.now.vertices.now levels.now) (by_grade grades.now.cells.now grades.now.n grades.now.m) k i j v }
 {
     let price = P::of_link(line, i, v, levels[k - 1].weight);
     price
@@ -59,8 +59,8 @@ fn attains<P: Price>(
 ) -> bool
     requires level { (1 ≤ k) × (k ≤ length levels.now) }
     requires ends { (i < v) × ((v ≤ j) × (j < prices.now.n)) }
-    requires whole { TableHolds kind (price_by link line.now.vertices.now levels.now) (by_grade grades.now.cells.now grades.now.n grades.now.m) prices.now.cells.now prices.now.n (length levels.now) }
-    ensures { result ≡ (by_grade grades.now.cells.now grades.now.n grades.now.m k i v && kind.not_dearer (candidate kind (price_by link line.now.vertices.now levels.now) (by_grade grades.now.cells.now grades.now.n grades.now.m) k i j v) best) }
+    requires whole { TableHolds P.kind (price_by P.link line.now.vertices.now levels.now) (by_grade grades.now.cells.now grades.now.n grades.now.m) prices.now.cells.now prices.now.n (length levels.now) }
+    ensures { result ≡ (by_grade grades.now.cells.now grades.now.n grades.now.m k i v && P.kind.not_dearer (candidate P.kind (price_by P.link line.now.vertices.now levels.now) (by_grade grades.now.cells.now grades.now.n grades.now.m) k i j v) best) }
 {
     allowed(grades, k, i, v) && candidate(line, levels, grades, prices, k, i, j, v).not_dearer(best)
 }
@@ -77,8 +77,8 @@ fn next_vertex<P: Price>(
 ) -> usize
     requires level { (1 ≤ k) × (k ≤ length levels.now) }
     requires ends { (i < j) × (j < prices.now.n) }
-    requires whole { TableHolds kind (price_by link line.now.vertices.now levels.now) (by_grade grades.now.cells.now grades.now.n grades.now.m) prices.now.cells.now prices.now.n (length levels.now) }
-    ensures { result ≡ next kind (price_by link line.now.vertices.now levels.now) (by_grade grades.now.cells.now grades.now.n grades.now.m) (k - 1) i j }
+    requires whole { TableHolds P.kind (price_by P.link line.now.vertices.now levels.now) (by_grade grades.now.cells.now grades.now.n grades.now.m) prices.now.cells.now prices.now.n (length levels.now) }
+    ensures { result ≡ next P.kind (price_by P.link line.now.vertices.now levels.now) (by_grade grades.now.cells.now grades.now.n grades.now.m) (k - 1) i j }
 {
     let best = prices.get(k, i, j);
     for v in i + 1..j {
@@ -113,9 +113,9 @@ fn mark_between<P: Price>(
 )
     requires level { (length levels.now ≤ 8) × (k ≤ length levels.now) }
     requires ends { (i ≤ j) × ((j < prices.now.n) × (prices.now.n ≤ length stays.old)) }
-    requires whole { TableHolds kind (price_by link line.now.vertices.now levels.now) (by_grade grades.now.cells.now grades.now.n grades.now.m) prices.now.cells.now prices.now.n (length levels.now) }
+    requires whole { TableHolds P.kind (price_by P.link line.now.vertices.now levels.now) (by_grade grades.now.cells.now grades.now.n grades.now.m) prices.now.cells.now prices.now.n (length levels.now) }
     requires none { (v : ℕ) → i < v → v < j → slice_index stays.old v ≡ 0 }
-    ensures inside { (v : ℕ) → i < v → v < j → slice_index stays.new v ≡ stay_between kind (price_by link line.now.vertices.now levels.now) (by_grade grades.now.cells.now grades.now.n grades.now.m) k i j v }
+    ensures inside { (v : ℕ) → i < v → v < j → slice_index stays.new v ≡ stay_between P.kind (price_by P.link line.now.vertices.now levels.now) (by_grade grades.now.cells.now grades.now.n grades.now.m) k i j v }
     ensures outside { (v : ℕ) → (v ≤ i) ⊎ (j ≤ v) → slice_index stays.new v ≡ slice_index stays.old v }
 {
     if k == 0 {
@@ -152,8 +152,8 @@ pub(crate) fn mark_stays<P: Price>(
 )
     requires level { (1 ≤ length levels.now) × (length levels.now ≤ 8) }
     requires room { (2 ≤ n) × ((prices.now.n ≡ n) × (n ≤ length stays.old)) }
-    requires whole { TableHolds kind (price_by link line.now.vertices.now levels.now) (by_grade grades.now.cells.now grades.now.n grades.now.m) prices.now.cells.now prices.now.n (length levels.now) }
-    ensures inside { (v : ℕ) → v < n → slice_index stays.new v ≡ stay (first_least kind (price_by link line.now.vertices.now levels.now) (by_grade grades.now.cells.now grades.now.n grades.now.m) (length levels.now) n) (length levels.now) v }
+    requires whole { TableHolds P.kind (price_by P.link line.now.vertices.now levels.now) (by_grade grades.now.cells.now grades.now.n grades.now.m) prices.now.cells.now prices.now.n (length levels.now) }
+    ensures inside { (v : ℕ) → v < n → slice_index stays.new v ≡ stay (first_least P.kind (price_by P.link line.now.vertices.now levels.now) (by_grade grades.now.cells.now grades.now.n grades.now.m) (length levels.now) n) (length levels.now) v }
     ensures outside { (v : ℕ) → n ≤ v → slice_index stays.new v ≡ slice_index stays.old v }
 {
     let m = levels.len();

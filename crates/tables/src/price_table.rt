@@ -32,7 +32,7 @@ fn place(n: usize, k: usize, i: usize, j: usize, room: usize) -> Option<usize>
 // The cell at a place.
 fn cell<P: Price>(cells: &[P], place: usize) -> P
     requires { place < length cells.now }
-    ensures { result ≡ slice_index_or cells.now place kind.neutral }
+    ensures { result ≡ slice_index_or cells.now place P.kind.neutral }
 {
     cells[place]
 }
@@ -57,7 +57,7 @@ impl<'a, P: Price> PriceTable<'a, P> {
 
     // The price at level k from i to j. It is neutral at level 0, where i or j is no vertex, and past the memory.
     pub fn get(&self, k: usize, i: usize, j: usize) -> P
-        ensures { result ≡ price_at kind.neutral self.now.cells.now self.now.n k i j }
+        ensures { result ≡ price_at P.kind.neutral self.now.cells.now self.now.n k i j }
     {
         match place(self.n, k, i, j, self.cells.len()) {
             Some(place) => cell(self.cells, place),
@@ -68,7 +68,7 @@ impl<'a, P: Price> PriceTable<'a, P> {
     // Puts a price at level k from i to j. It has no effect at level 0, where i or j is no vertex, and past the memory.
     pub fn put(&mut self, k: usize, i: usize, j: usize, price: P)
         ensures cells { self.new.cells.now ≡ price_put self.old.cells.now self.old.n k i j price }
-        ensures reads_back { ReadsBack kind.neutral self.old.cells.now self.new.cells.now self.old.n k i j price }
+        ensures reads_back { ReadsBack P.kind.neutral self.old.cells.now self.new.cells.now self.old.n k i j price }
         ensures n { self.new.n ≡ self.old.n }
         ensures lender { self.new.cells.ghost_name ≡ self.old.cells.ghost_name }
     {
@@ -80,8 +80,8 @@ impl<'a, P: Price> PriceTable<'a, P> {
     // Fills the cells of all levels with the least totals between all vertices, by what the grades allow. Nothing is written where
     // n is above 256, where there are more than 8 levels, or where the memory is short.
     pub fn fill(&mut self, line: &Line, levels: &[Level], grades: &GradeTable)
-        ensures filled { PriceRoom (length levels.now) self.old.n (length self.old.cells.now) → TableHolds kind (price_by link line.now.vertices.now levels.now) (by_grade grades.now.cells.now grades.now.n grades.now.m) self.new.cells.now self.old.n (length levels.now) }
-        ensures rest_kept { KeptOutside kind self.old.cells.now self.new.cells.now 0 (length levels.now * (self.old.n * self.old.n)) }
+        ensures filled { PriceRoom (length levels.now) self.old.n (length self.old.cells.now) → TableHolds P.kind (price_by P.link line.now.vertices.now levels.now) (by_grade grades.now.cells.now grades.now.n grades.now.m) self.new.cells.now self.old.n (length levels.now) }
+        ensures rest_kept { KeptOutside P.kind self.old.cells.now self.new.cells.now 0 (length levels.now * (self.old.n * self.old.n)) }
         ensures short_kept { (PriceRoom (length levels.now) self.old.n (length self.old.cells.now) → ⊥) → self.new.cells.now ≡ self.old.cells.now }
         ensures n { self.new.n ≡ self.old.n }
         ensures lender { self.new.cells.ghost_name ≡ self.old.cells.ghost_name }

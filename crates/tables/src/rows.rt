@@ -22,8 +22,8 @@ pub(crate) fn row_start(n: usize, m: usize, k: usize, i: usize) -> usize
 // The cells from `start` on, so many of them, become neutral.
 fn clear<P: Price>(cells: &mut [P], start: usize, width: usize)
     requires { start + width ≤ length cells.old }
-    ensures inside { (x : ℕ) → x < width → slice_index_or cells.new (start + x) kind.neutral ≡ kind.neutral }
-    ensures outside { KeptOutside kind cells.old cells.new start (start + width) }
+    ensures inside { (x : ℕ) → x < width → slice_index_or cells.new (start + x) P.kind.neutral ≡ P.kind.neutral }
+    ensures outside { KeptOutside P.kind cells.old cells.new start (start + width) }
 {
     for j in 0..width {
         cells[start + j] = P::neutral();
@@ -33,8 +33,8 @@ fn clear<P: Price>(cells: &mut [P], start: usize, width: usize)
 // The cells from `own` on become the head joined with the cells from `from` on.
 fn put_row<P: Price>(cells: &mut [P], own: usize, from: usize, width: usize, head: P)
     requires { (own + width ≤ from) × (from + width ≤ length cells.old) }
-    ensures inside { (x : ℕ) → x < width → slice_index_or cells.new (own + x) kind.neutral ≡ kind.join head (slice_index_or cells.old (from + x) kind.neutral) }
-    ensures outside { KeptOutside kind cells.old cells.new own (own + width) }
+    ensures inside { (x : ℕ) → x < width → slice_index_or cells.new (own + x) P.kind.neutral ≡ P.kind.join head (slice_index_or cells.old (from + x) P.kind.neutral) }
+    ensures outside { KeptOutside P.kind cells.old cells.new own (own + width) }
 {
     for j in 0..width {
         let other = head.join(cells[from + j]);
@@ -45,8 +45,8 @@ fn put_row<P: Price>(cells: &mut [P], own: usize, from: usize, width: usize, hea
 // The cells from `own` on become the head joined with the cells from `from` on, where that is cheaper.
 fn take_row<P: Price>(cells: &mut [P], own: usize, from: usize, width: usize, head: P)
     requires { (own + width ≤ from) × (from + width ≤ length cells.old) }
-    ensures inside { (x : ℕ) → x < width → slice_index_or cells.new (own + x) kind.neutral ≡ taken kind head cells.old (own + x) (from + x) }
-    ensures outside { KeptOutside kind cells.old cells.new own (own + width) }
+    ensures inside { (x : ℕ) → x < width → slice_index_or cells.new (own + x) P.kind.neutral ≡ taken P.kind head cells.old (own + x) (from + x) }
+    ensures outside { KeptOutside P.kind cells.old cells.new own (own + width) }
 {
     for j in 0..width {
         let other = head.join(cells[from + j]);
@@ -68,7 +68,7 @@ pub(crate) fn head<P: Price>(
 ) -> P
     requires small { (n ≤ 256) × ((length levels.now ≤ 8) × ((1 ≤ k) × ((k ≤ length levels.now) × (i < n)))) }
     requires room { (v < n) × (length levels.now * (n * n) ≤ length cells.now) }
-    ensures { result ≡ head kind (price_by link line.now.vertices.now levels.now k i v) cells.now n k i v }
+    ensures { result ≡ head P.kind (price_by P.link line.now.vertices.now levels.now k i v) cells.now n k i v }
 {
     let price = P::of_link(line, i, v, levels[k - 1].weight);
     if k <= 1 {
@@ -91,9 +91,9 @@ fn take_candidates<P: Price>(
 )
     requires small { (n ≤ 256) × ((length levels.now ≤ 8) × ((1 ≤ k) × ((k ≤ length levels.now) × (i + 1 < v)))) }
     requires room { (v < n) × (length levels.now * (n * n) ≤ length cells.old) }
-    requires before { RowSoFar kind (price_by link line.now.vertices.now levels.now) (by_grade grades.now.cells.now grades.now.n grades.now.m) cells.old n k i v }
-    ensures after { RowSoFar kind (price_by link line.now.vertices.now levels.now) (by_grade grades.now.cells.now grades.now.n grades.now.m) cells.new n k i (v + 1) }
-    ensures outside { KeptOutside kind cells.old cells.new (row n k i) (row n k i + n) }
+    requires before { RowSoFar P.kind (price_by P.link line.now.vertices.now levels.now) (by_grade grades.now.cells.now grades.now.n grades.now.m) cells.old n k i v }
+    ensures after { RowSoFar P.kind (price_by P.link line.now.vertices.now levels.now) (by_grade grades.now.cells.now grades.now.n grades.now.m) cells.new n k i (v + 1) }
+    ensures outside { KeptOutside P.kind cells.old cells.new (row n k i) (row n k i + n) }
 {
     let Some(first) = grades.first_level(i, v) else {
         return;
@@ -120,9 +120,9 @@ fn fill_row<P: Price>(
 )
     requires small { (n ≤ 256) × ((length levels.now ≤ 8) × ((1 ≤ k) × ((k ≤ length levels.now) × (i < n)))) }
     requires room { length levels.now * (n * n) ≤ length cells.old }
-    requires before { RowsHold kind (price_by link line.now.vertices.now levels.now) (by_grade grades.now.cells.now grades.now.n grades.now.m) cells.old n k (i + 1) }
-    ensures after { RowsHold kind (price_by link line.now.vertices.now levels.now) (by_grade grades.now.cells.now grades.now.n grades.now.m) cells.new n k i }
-    ensures outside { KeptOutside kind cells.old cells.new 0 (length levels.now * (n * n)) }
+    requires before { RowsHold P.kind (price_by P.link line.now.vertices.now levels.now) (by_grade grades.now.cells.now grades.now.n grades.now.m) cells.old n k (i + 1) }
+    ensures after { RowsHold P.kind (price_by P.link line.now.vertices.now levels.now) (by_grade grades.now.cells.now grades.now.n grades.now.m) cells.new n k i }
+    ensures outside { KeptOutside P.kind cells.old cells.new 0 (length levels.now * (n * n)) }
 {
     let m = levels.len();
     let own = row_start(n, m, k, i);
@@ -149,9 +149,9 @@ fn fill_level<P: Price>(
 )
     requires small { (n ≤ 256) × ((length levels.now ≤ 8) × ((1 ≤ k) × (k ≤ length levels.now))) }
     requires room { length levels.now * (n * n) ≤ length cells.old }
-    requires before { RowsHold kind (price_by link line.now.vertices.now levels.now) (by_grade grades.now.cells.now grades.now.n grades.now.m) cells.old n k n }
-    ensures after { RowsHold kind (price_by link line.now.vertices.now levels.now) (by_grade grades.now.cells.now grades.now.n grades.now.m) cells.new n k 0 }
-    ensures outside { KeptOutside kind cells.old cells.new 0 (length levels.now * (n * n)) }
+    requires before { RowsHold P.kind (price_by P.link line.now.vertices.now levels.now) (by_grade grades.now.cells.now grades.now.n grades.now.m) cells.old n k n }
+    ensures after { RowsHold P.kind (price_by P.link line.now.vertices.now levels.now) (by_grade grades.now.cells.now grades.now.n grades.now.m) cells.new n k 0 }
+    ensures outside { KeptOutside P.kind cells.old cells.new 0 (length levels.now * (n * n)) }
 {
     for i in (0..n).rev() {
         fill_row(line, levels, grades, cells, n, k, i);
@@ -167,8 +167,8 @@ pub(crate) fn fill_levels<P: Price>(
     n: usize,
 )
     requires { (n ≤ 256) × ((length levels.now ≤ 8) × (length levels.now * (n * n) ≤ length cells.old)) }
-    ensures after { TableHolds kind (price_by link line.now.vertices.now levels.now) (by_grade grades.now.cells.now grades.now.n grades.now.m) cells.new n (length levels.now) }
-    ensures outside { KeptOutside kind cells.old cells.new 0 (length levels.now * (n * n)) }
+    ensures after { TableHolds P.kind (price_by P.link line.now.vertices.now levels.now) (by_grade grades.now.cells.now grades.now.n grades.now.m) cells.new n (length levels.now) }
+    ensures outside { KeptOutside P.kind cells.old cells.new 0 (length levels.now * (n * n)) }
 {
     for k in 1..levels.len() + 1 {
         fill_level(line, levels, grades, cells, n, k);

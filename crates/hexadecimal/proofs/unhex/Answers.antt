@@ -16,6 +16,6 @@ loop-i-preserved c =
     let text = c.args.text.now in
     let n = length text / 2 in
     let i = c.loop-i.i in
-    ap (λ read. behind read (bytes_of (n - (i + 1)) (drop (2 * (i + 1)) text))) c.in-ok-push.ensures.items
+    ap (λ read. behind read (bytes_of (n - (i + 1)) (drop (2 * (i + 1)) text))) c.in_ok-push.ensures.items
     ∙ sym (one_byte n i text (vec_items c.loop-i.bytes) c.loop-i-test.true c.digit-high.result c.digit-low.result c.digit-high.ensures.value c.digit-low.ensures.value c.if-high-ge16.false c.if-low-ge16.false)
     ∙ c.loop-i.invariant

@@ -5,9 +5,9 @@ use Rattle.drawings.specs.Pack.{Drawable}
 use Rattle.drawings.proofs.Jobs.{from_parts, line_made}
 use Rattle.drawings.proofs.pack.draw_job.Goals as goal
 
-pub returns-in-err-make : goal.returns-in-err-make
-returns-in-err-make c =
-    absurd (line_made c.args.place.now.vertices c.args.job.vertices c.in-err-make.field-0.0 c.requires.line c.in-err-make.ensures.answer)
+pub returns-in_err-make : goal.returns-in_err-make
+returns-in_err-make c =
+    absurd (line_made c.args.place.now.vertices c.args.job.vertices c.in_err-make.field-0.0 c.requires.line c.in_err-make.ensures.answer)
 
 pub draw_numbered-requires : goal.draw_numbered-requires
 draw_numbered-requires c =
@@ -17,4 +17,4 @@ draw_numbered-requires c =
 pub returns : goal.returns
 returns c =
     from_parts c.args.job.price (measure_says c.args.job.measure) c.args.place.now.vertices _ c.args.place.now.levels _ c.args.job.vertices c.args.job.levels
-    c.draw_numbered.result (ap (λ x. x.now) c.in-ok-make.ensures.refusal_leaves_line) refl c.draw_numbered.ensures
+    c.draw_numbered.result (ap (λ x. x.now) c.in_ok-make.ensures.refusal_leaves_line) refl c.draw_numbered.ensures

@@ -11,4 +11,4 @@ added (Err x) before line with all e f = tt
 pub returns : goal.returns
 returns c =
     added c.push_str-2.result (string_bytes c.args.text.now) c.args.line.now (string_bytes c.push_str.new.self) (string_bytes c.push_str-2.new.self)
-    (pushed c.args.line.now refl c.in-ok-push_str.was c.push_str.ensures.bytes) c.push_str-2.ensures.bytes
+    (pushed c.args.line.now refl c.in_ok-push_str.was c.push_str.ensures.bytes) c.push_str-2.ensures.bytes

@@ -10,8 +10,8 @@ loop-v-preserved c =
     let before = string_bytes c.args.text.now in
     let chain = c.args.chain.now in
     let i = c.loop-v.v-index in
-    let e = pushed c.as_str.result.now c.loop-v.invariant c.in-ok-push_str.was c.push_str.ensures.bytes in
-    let written : c.as_str.result.now ≡ vertex_text (get_or chain i 0) = c.as_str.ensures.value ∙ c.in-ok-format.ensures.ok in
+    let e = pushed c.as_str.result.now c.loop-v.invariant c.in_ok-push_str.was c.push_str.ensures.bytes in
+    let written : c.as_str.result.now ≡ vertex_text (get_or chain i 0) = c.as_str.ensures.value ∙ c.in_ok-format.ensures.ok in
     e ∙ ap (λ x. (before ++ flat_map vertex_text (take i chain)) ++ x) written ∙ flat_map_more vertex_text before (take i chain) (get_or chain i 0)
     ∙ ap (λ x. before ++ flat_map vertex_text x) (sym (take_more chain i 0 c.loop-v-test.true))
 

@@ -7,4 +7,4 @@ pub returns : goal.returns
 returns c =
     let chain = c.args.chain.now in
     let links : c.saturating_sub-links.result ≡ length chain - 1 = c.saturating_sub-links.ensures in
-    c.in-ok-add_vertices.ensures ∙ ap (λ x. x ++ flat_map vertex_text chain) c.in-ok-line.ensures.ok ∙ simp (append_assoc, links)
+    c.in_ok-add_vertices.ensures ∙ ap (λ x. x ++ flat_map vertex_text chain) c.in_ok-line.ensures.ok ∙ simp (append_assoc, links)

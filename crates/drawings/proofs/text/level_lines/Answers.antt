@@ -12,5 +12,5 @@ one_more chain k before vs line all b v l a =
 pub loop-k-preserved : goal.loop-k-preserved
 loop-k-preserved c =
     one_more (read_off (λ v. get_or c.args.stays.now v 0) (length c.args.stays.now)) c.loop-k.k (string_bytes c.loop-k.text) c.as_slice.result.now c.as_str.result.now
-    (string_bytes c.add_line.new.text) c.loop-k.invariant (c.as_slice.ensures.value ∙ c.in-ok-chain.ensures) (c.as_str.ensures.value ∙ c.in-ok-line.ensures)
-    c.in-ok-add_line.ensures
+    (string_bytes c.add_line.new.text) c.loop-k.invariant (c.as_slice.ensures.value ∙ c.in_ok-chain.ensures) (c.as_str.ensures.value ∙ c.in_ok-line.ensures)
+    c.in_ok-add_line.ensures

@@ -27,17 +27,17 @@ body_at-requires g c =
     let h = inside (length c.args.line.now.vertices.now) (length c.args.levels.now) c.loop-i.i c.loop-i.at bs c.loop-i-test.true c.loop-i.invariant.0 in
     ⊎_elim (λ e. subst (λ p. p + 6 + field 4 0 (drop p bs) ≤ length bs) (sym e) h) (λ k. k) c.loop-i.invariant.1
 
-pub returns-in-err-judge_chain : goal.returns-in-err-judge_chain
-returns-in-err-judge_chain g c =
-    let p = err_from_is_err_and c.from-residual.result c.from-residual.ensures.1 in
+pub returns-in_err-judge_chain : goal.returns-in_err-judge_chain
+returns-in_err-judge_chain g c =
+    let p = err_from_is_err_and c.from_residual.result c.from_residual.ensures.1 in
     let bs = c.args.records.now in
     let ls = c.args.levels.now in
     let n = length c.args.line.now.vertices.now in
     let allowed : ℕ → ℕ → ℕ → Bool = λ t i j. g.M.Measure.says c.args.measure.now c.args.line.now.vertices.now i j t in
-    let e = rw (c.body_at-body.ensures.value, c.body_at.ensures.value) at c.in-err-judge_chain.ensures in
+    let e = rw (c.body_at-body.ensures.value, c.body_at.ensures.value) at c.in_err-judge_chain.ensures in
     p.1 ∙ ap Err p.2
     ∙ sym (judged_refused n (length ls) c.loop-i.i c.loop-i.at bs c.loop-i-test.true c.loop-i.invariant.0 ls c.loop-i-test.true allowed (numbers (body_of (drop c.loop-i.finer bs)))
-    c.in-err-judge_chain.field-0.0 e) ∙ c.loop-i.invariant.2
+    c.in_err-judge_chain.field-0.0 e) ∙ c.loop-i.invariant.2
 
 pub overflow_add-at : goal.overflow_add-at
 overflow_add-at g c =
@@ -58,7 +58,7 @@ loop-i-preserved g c =
     let at = c.loop-i.at in
     let allowed : ℕ → ℕ → ℕ → Bool = λ t i j. g.M.Measure.says c.args.measure.now c.args.line.now.vertices.now i j t in
     let s : length c.body_at-body.result.now ≡ field 4 0 (drop at bs) = c.body_at-body.ensures.size in
-    let e = rw (c.body_at-body.ensures.value, c.body_at.ensures.value) at c.in-ok-judge_chain.ensures in
+    let e = rw (c.body_at-body.ensures.value, c.body_at.ensures.value) at c.in_ok-judge_chain.ensures in
     let h = c.loop-i-test.true in
     let ok = c.loop-i.invariant.0 in (
       subst (λ z. is_ok (chains_end n (length ls - (i + 1)) (at + 6 + z) (drop (at + 6 + z) bs)) ≡ true) (sym s) (next_sound n (length ls) i at bs h ok),

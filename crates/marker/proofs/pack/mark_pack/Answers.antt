@@ -5,30 +5,30 @@ use Rattle.marker.proofs.Heads.{head_read, marked_so, head_refused}
 use Rattle.marker.proofs.Packs.{marks_packs}
 use Rattle.marker.proofs.pack.mark_pack.Goals as goal
 
-pub returns-in-err-job : goal.returns-in-err-job
-returns-in-err-job c =
-    let p = err_from_is_err_and c.from-residual.result c.from-residual.ensures.1 in
+pub returns-in_err-job : goal.returns-in_err-job
+returns-in_err-job c =
+    let p = err_from_is_err_and c.from_residual.result c.from_residual.ensures.1 in
     record {
-      answer = p.1 ∙ ap Err p.2 ∙ sym (head_refused c.args.bytes.now c.in-err-job.field-0.0 c.in-err-job.ensures.answer);
+      answer = p.1 ∙ ap Err p.2 ∙ sym (head_refused c.args.bytes.now c.in_err-job.field-0.0 c.in_err-job.ensures.answer);
       valid_exactly_for_true_families = marks_packs c.args.bytes.now (λ i. (c.type_inv.bytes i).fits);
     }
 
 pub rest-requires : goal.rest-requires
 rest-requires c =
     let read = c.read_family_head in
-    (head_read c.args.bytes.now c.in-ok-job.job c.in-ok-job.end _ _ _ _ c.in-ok-job.ensures.answer read.ensures.accepts_exactly_lawful_heads read.ensures.vertices read.ensures.levels).inside
+    (head_read c.args.bytes.now c.in_ok-job.job c.in_ok-job.end _ _ _ _ c.in_ok-job.ensures.answer read.ensures.accepts_exactly_lawful_heads read.ensures.vertices read.ensures.levels).inside
 
 pub mark_job-requires : goal.mark_job-requires
 mark_job-requires c =
     let read = c.read_family_head in
-    (head_read c.args.bytes.now c.in-ok-job.job c.in-ok-job.end _ _ _ _ c.in-ok-job.ensures.answer read.ensures.accepts_exactly_lawful_heads read.ensures.vertices read.ensures.levels).few
+    (head_read c.args.bytes.now c.in_ok-job.job c.in_ok-job.end _ _ _ _ c.in_ok-job.ensures.answer read.ensures.accepts_exactly_lawful_heads read.ensures.vertices read.ensures.levels).few
 
 pub returns : goal.returns
 returns c =
     let read = c.read_family_head in
-    let h = head_read c.args.bytes.now c.in-ok-job.job c.in-ok-job.end _ _ _ _ c.in-ok-job.ensures.answer read.ensures.accepts_exactly_lawful_heads read.ensures.vertices read.ensures.levels in
+    let h = head_read c.args.bytes.now c.in_ok-job.job c.in_ok-job.end _ _ _ _ c.in_ok-job.ensures.answer read.ensures.accepts_exactly_lawful_heads read.ensures.vertices read.ensures.levels in
     record {
-      answer = c.mark_job.ensures ∙ ap (place_marked read.new.place.vertices read.new.place.levels c.in-ok-job.job) c.rest.ensures
-          ∙ marked_so c.args.bytes.now c.in-ok-job.job c.in-ok-job.end _ _ h;
+      answer = c.mark_job.ensures ∙ ap (place_marked read.new.place.vertices read.new.place.levels c.in_ok-job.job) c.rest.ensures
+          ∙ marked_so c.args.bytes.now c.in_ok-job.job c.in_ok-job.end _ _ h;
       valid_exactly_for_true_families = marks_packs c.args.bytes.now (λ i. (c.type_inv.bytes i).fits);
     }

@@ -4,8 +4,8 @@ use Rattle.packs.proofs.Accepting.{accepts_jobs}
 use Rattle.packs.proofs.Layouts.{job_is}
 use Rattle.packs.proofs.reader.read_job.Goals as goal
 
-pub returns-in-err-layout : goal.returns-in-err-layout
-returns-in-err-layout c =
+pub returns-in_err-layout : goal.returns-in_err-layout
+returns-in_err-layout c =
     record {
       answer = search rules;
       accepts_exactly_lawful_jobs = accepts_jobs c.args.bytes.now (λ i. (c.type_inv.bytes i).fits);
@@ -24,7 +24,7 @@ returns-then-layout-bytes c =
 
 pub returns : goal.returns
 returns c =
-    let q = sym (job_is c.args.bytes.now c.in-ok-layout.layout (sym c.in-ok-layout.ensures.answer) c.if-layout-bytes.false) in
+    let q = sym (job_is c.args.bytes.now c.in_ok-layout.layout (sym c.in_ok-layout.ensures.answer) c.if-layout-bytes.false) in
     record {
       accepts_exactly_lawful_jobs = accepts_jobs c.args.bytes.now (λ i. (c.type_inv.bytes i).fits);
       answer = c.content.ensures.answer ∙ ap summed_up q;

@@ -6,11 +6,11 @@ use Rattle.tables.proofs.Places.{row_after}
 use Rattle.tables.proofs.Filling.{candidates_left, candidates_taken}
 use Rattle.tables.proofs.rows.take_candidates.Goals as goal
 
-pub returns-in-default : goal.returns-in-default
-returns-in-default g c =
+pub returns-in_default : goal.returns-in_default
+returns-in_default g c =
     let price = price_by g.P.Price.link c.args.line.now.vertices.now c.args.levels.now in
     let allowed = by_grade c.args.grades.now.cells.now c.args.grades.now.n c.args.grades.now.m in
-    let barred = ap (λ r. reaches r c.args.k) (sym c.in-default.ensures.answer) in
+    let barred = ap (λ r. reaches r c.args.k) (sym c.in_default.ensures.answer) in
     record {
       after = candidates_left g.P.Price.kind price allowed c.args.cells.now c.args.n c.args.k c.args.i c.args.v (omega arith) barred c.requires.before;
       outside = search rules;

@@ -6,5 +6,5 @@ abbrev pub invariant-loop-j : goal.invariant-loop-j
 invariant-loop-j g l =
     let K = g.P.Price.kind in
     (length l.cells ≡ length l.initial.cells) ×
-    ((x : ℕ) → x < l.j → get_or l.cells (l.own_val + x) K.neutral ≡ taken K l.head l.initial.cells (l.own_val + x) (l.from + x)) ×
-    KeptOutside K l.initial.cells l.cells l.own_val (l.own_val + l.j)
+    ((x : ℕ) → x < l.j → get_or l.cells (l.own + x) K.neutral ≡ taken K l.head l.initial.cells (l.own + x) (l.from + x)) ×
+    KeptOutside K l.initial.cells l.cells l.own (l.own + l.j)

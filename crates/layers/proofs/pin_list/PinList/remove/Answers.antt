@@ -15,11 +15,11 @@ returns-in-Some c =
       keeps = λ n l. subst (LawfulPins n) (sym list) (lawful_less n v pins l);
     }
 
-pub returns-in-default : goal.returns-in-default
-returns-in-default c =
+pub returns-in_default : goal.returns-in_default
+returns-in_default c =
     let pins = listed c.args.self.now in
     let v = c.args.v in
-    let list = without_absent pins v c.in-default.ensures in
+    let list = without_absent pins v c.in_default.ensures in
     record {
       list = sym list;
       less = λ d. subst (TakesOut v pins) list (takes_out v pins d);

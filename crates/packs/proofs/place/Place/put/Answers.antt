@@ -8,10 +8,10 @@ kept ys zs xs e h = simp (length-append, length-drop) (omega (arith, ap length e
 
 pub invariant_of-self : goal.invariant_of-self
 invariant_of-self c =
-    let s = c.args.self.now.sized in (
-      (
+    let s = c.args.self.now.sized in
+    record {
+      sized = (
         kept _ c.args.vertices.now _ c.copy_from_slice.ensures.after (omega arith) ∙ s.0,
         kept _ c.args.levels.now _ c.copy_from_slice-2.ensures.after (omega arith) ∙ s.1,
-      ),
-      tt,
-    )
+      );
+    }

@@ -17,10 +17,10 @@ returns-in-Some g c =
     c.set_cell.ensures ∙ sym (p.2 c.args.price) in
     record { cells = e; reads_back = put_so t.n c.args.k c.args.i c.args.j t.cells.now none c.args.price _ e; n = refl; lender = refl }
 
-pub returns-in-default : goal.returns-in-default
-returns-in-default g c =
+pub returns-in_default : goal.returns-in_default
+returns-in_default g c =
     let t = c.args.self.now in
     let none = g.P.Price.kind.neutral in
-    let p = no_place t.n c.args.k c.args.i c.args.j t.cells.now none c.in-default.ensures in
+    let p = no_place t.n c.args.k c.args.i c.args.j t.cells.now none c.in_default.ensures in
     let e : t.cells.now ≡ price_put t.cells.now t.n c.args.k c.args.i c.args.j c.args.price = sym (p.1 c.args.price) in
     record { cells = e; reads_back = put_so t.n c.args.k c.args.i c.args.j t.cells.now none c.args.price _ e; n = refl; lender = refl }
