@@ -8,14 +8,14 @@ returns-in_err-size c =
     let p = err_from_is_err_and c.from_residual.result c.from_residual.ensures.1 in
     record {
       answer = p.1 ∙ ap Err p.2
-          ∙ sym (end_refused c.args.n c.args.m c.loop-k.-k c.loop-k.at c.in_err-size.field-0.0 c.args.records.now (omega arith) (sym c.in_err-size.ensures.answer))
+          ∙ sym (end_refused c.args.n c.args.m c.loop-k._k c.loop-k.at c.in_err-size.field-0.0 c.args.records.now (omega arith) (sym c.in_err-size.ensures.answer))
           ∙ c.loop-k.invariant.0;
       within = IfOk-from_err c.from_residual.result _ c.from_residual.ensures.0;
     }
 
 pub loop-k-preserved : goal.loop-k-preserved
 loop-k-preserved c = (
-  sym (end_further c.args.n c.args.m c.loop-k.-k c.loop-k.at c.in_ok-size.size c.args.records.now (omega arith) (sym c.in_ok-size.ensures.answer))
+  sym (end_further c.args.n c.args.m c.loop-k._k c.loop-k.at c.in_ok-size.size c.args.records.now (omega arith) (sym c.in_ok-size.ensures.answer))
       ∙ c.loop-k.invariant.0,
   c.in_ok-size.ensures.within,
 )

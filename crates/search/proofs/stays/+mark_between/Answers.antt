@@ -18,21 +18,12 @@ mark_between-requires g t c κs within =
       (
         search rules,
         (
-          search rules,
+          (search rules, search rules),
           (
-            search rules,
+            (omega (arith, r.0, is), (omega (arith, r.1, is), omega (arith, c.put_stay.auto.stays, inv.2))),
             (
-              omega (arith, r.0, is),
-              (
-                omega (arith, r.1, is),
-                (
-                  omega (arith, c.put_stay.auto.stays, inv.2),
-                  (
-                    c.requires.whole,
-                    λ v a b. p.others v (inl b) ∙ inv.5 v (inr (inl a)) ∙ c.requires.none v (omega (arith, inv.0)) (omega (arith, r.1, is)),
-                  ),
-                ),
-              ),
+              c.requires.whole,
+              λ v a b. p.others v (inl b) ∙ inv.5 v (inr (inl a)) ∙ c.requires.none v (omega (arith, inv.0)) (omega (arith, r.1, is)),
             ),
           ),
         ),
