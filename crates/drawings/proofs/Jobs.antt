@@ -1,7 +1,6 @@
 -- A job that was read: what it says, and where it lies. Assumes nothing.
-use Rattle.std.proofs.Common.{◌≡◌, ℕ, ◌-◌, ◌≤◌, List, length, take, Ok, Err, Result, sym, refl, ap, ◌∙◌, subst, arith}
+use Rattle.std.proofs.Common.{◌≡◌, ℕ, ◌-◌, ◌≤◌, List, length, take, Ok, Err, Result, sym, ap, ◌∙◌, subst, arith}
 use Rattle.std.proofs.lemmas.List.{take_at}
-use Rattle.lines.specs.Fault.{then}
 use Rattle.lines.specs.Line.{Lawful, judged_line}
 use Rattle.lines.specs.declared.fault.Fault.{Fault}
 use Rattle.lines.specs.declared.level.Level.{Level}
@@ -17,7 +16,7 @@ use Rattle.marker.specs.Pack.{measure_says}
 use Rattle.drawings.specs.declared.drawing.Drawing.{Drawing}
 use Rattle.drawings.specs.declared.drawing.DrawError.{DrawError}
 use Rattle.drawings.specs.declared.drawing.DrawError.TheVariants.{Refused, OutOfMemory}
-use Rattle.drawings.specs.Pack.{Drawable, Made, ShowsPriced, Drawn, Draws}
+use Rattle.drawings.specs.Pack.{Drawable, Made, ShowsPriced, Draws}
 
 pub record JobRead (bs : List ℕ) (job : Job) (vs : List Vertex) (ls : List Level) : Type 0 where
   pub content : Content

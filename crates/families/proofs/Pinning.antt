@@ -1,11 +1,10 @@
 -- Pins and the links that skip them. Assumes nothing.
-use Rattle.std.proofs.Common.{◌≡◌, ℕ, suc, ◌-◌, ◌<◌, ◌≤◌, Bool, true, false, not, ◌&&◌, T, ltb, ◌⊎◌, ◌↔◌, List, [], ◌∷◌, refl, inl, inr, ⊎_elim, arith, ltb→lt, lt→ltb, T_not}
+use Rattle.std.proofs.Common.{ℕ, ◌-◌, ◌<◌, ◌≤◌, not, ◌&&◌, T, ltb, ◌⊎◌, List, [], ◌∷◌, refl, inl, inr, ⊎_elim, arith, ltb→lt, lt→ltb, T_not}
 use native.Mathlib.Decide.{dec_lt, dec_le}
 use lib.Dec.{not_T}
 use Rattle.std.specs.List.{AllByRecursion as All}
 use Rattle.std.proofs.ByRecursion.{All-weaker}
 use Rattle.families.specs.Chain.{Rises, Has, links_from, links}
-use Rattle.families.specs.Family.{Family}
 use Rattle.families.specs.Pin.{Skips, clear, pinned}
 use Rattle.families.specs.Theorems.{PinsOnChain, PinsOnFamily}
 use Rattle.families.proofs.Bools.{both, left, right}

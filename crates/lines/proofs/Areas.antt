@@ -1,5 +1,5 @@
 -- The walk round a link, step by step. Assumes nothing.
-use Rattle.std.proofs.Common.{◌≡◌, ℕ, suc, ◌+◌, ◌-◌, ◌*◌, ◌<◌, ◌≤◌, List, length, get_or, ℤ, pos, ◌+ℤ◌, nat_abs, sym, refl, ap, ◌∙◌, ap₂, arith, w64, to_z, of_z}
+use Rattle.std.proofs.Common.{◌≡◌, ℕ, suc, ◌+◌, ◌-◌, ◌*◌, ◌≤◌, List, get_or, ℤ, ◌+ℤ◌, nat_abs, refl, arith, w64, to_z, of_z}
 use Rattle.lines.specs.declared.vertex.Vertex.{Vertex}
 use Rattle.lines.specs.Vertex.{origin}
 use Rattle.lines.specs.Area.{step, walked}

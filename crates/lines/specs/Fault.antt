@@ -1,5 +1,5 @@
 -- Faults: why a call refuses, which layer found it, and where. Assumes nothing.
-use Rattle.std.specs.Prelude.{◌≡◌, ℕ, Ok, Err, Result}
+use Rattle.std.specs.Prelude.{ℕ, Ok, Err, Result}
 use Rattle.lines.specs.declared.fault.Cause.{Cause}
 use Rattle.lines.specs.declared.fault.Cause.TheVariants.{RunsOut, WrongKind, WrongLength, LeftOver, Coordinate, Tolerance, Weight, Unknown, Order, Nesting, Link, Total, Vertex, Pinned, NotPinned, Full, OtherCount, Memory, Level, Limits}
 use Rattle.lines.specs.declared.fault.Layer.{Layer}

@@ -1,5 +1,5 @@
 -- Vertices and their range. Assumes nothing.
-use Rattle.std.specs.Prelude.{ℕ, Bool, ◌&&◌, ℤ, pos, negsuc, ◌≤ℤ◌, int_le}
+use Rattle.std.specs.Prelude.{Bool, ◌&&◌, ℤ, pos, negsuc, ◌≤ℤ◌, int_le}
 use Rattle.lines.specs.declared.vertex.Vertex.{Vertex}
 
 -- The vertex with the coordinates x and y.

@@ -1,5 +1,5 @@
 -- A pack is marked valid exactly when it is one. Assumes nothing.
-use Rattle.std.proofs.Common.{◌≡◌, ℕ, ◌^◌, ◌<◌, ◌≤◌, min, ◌↔◌, List, ◌++◌, length, drop, Ok, Err, Result, sym, refl, ap, ◌∙◌, subst, arith}
+use Rattle.std.proofs.Common.{◌≡◌, ℕ, ◌^◌, ◌<◌, ◌≤◌, List, ◌++◌, length, drop, Ok, sym, refl, ap, ◌∙◌, subst, arith}
 use Rattle.std.proofs.lemmas.List.{drop_at}
 use Rattle.std.proofs.lemmas.Bool.Decides.{nat_tests}
 use Rattle.families.specs.Price.{Kind}
@@ -7,7 +7,6 @@ use Rattle.families.specs.Family.{Family, total}
 use Rattle.lines.specs.Fault.{then}
 use Rattle.lines.specs.Line.{Lawful}
 use Rattle.lines.specs.Level.{LawfulLevels}
-use Rattle.lines.specs.declared.fault.Fault.{Fault}
 use Rattle.lines.specs.declared.level.Level.{Level}
 use Rattle.lines.specs.declared.vertex.Vertex.{Vertex}
 use Rattle.measures.specs.Measure.{Answer, allowed_by}
@@ -20,12 +19,12 @@ use Rattle.packs.specs.declared.kind.PriceKind.{PriceKind}
 use Rattle.packs.specs.declared.kind.PriceKind.TheVariants.{Count, CountThenArea}
 use Rattle.packs.specs.Bytes.{Octets}
 use Rattle.packs.specs.Kind.{measure_largest}
-use Rattle.packs.specs.Job.{Content, LawfulContent, encoded, head_in, AcceptsHeads}
+use Rattle.packs.specs.Job.{Content, encoded, head_in}
 use Rattle.packs.proofs.Answered.{then_ok, then_made, same_answer}
 use Rattle.packs.proofs.LittleEndian.{octets_drop}
 use Rattle.packs.proofs.Accepting.{accepts_heads}
 use Rattle.marker.specs.Records.{family_records, chain_of}
-use Rattle.marker.specs.Marker.{marked, RecordsOfFamily}
+use Rattle.marker.specs.Marker.{marked}
 use Rattle.marker.specs.Pack.{measure_says, total_form, form_marked, job_marked, pack_marked, ValidPack, MarksPacks}
 use Rattle.marker.proofs.Marking.{marks_families}
 

@@ -1,5 +1,5 @@
 -- Judging chains level by level. Assumes nothing.
-use Rattle.std.specs.Prelude.{ℕ, ◌+◌, Bool, true, false, cond, not, ◌&&◌, ◌||◌, List, [], ◌∷◌, length, Some, None, Ok, Err, Option, Result, ◌==◌, nat_le}
+use Rattle.std.specs.Prelude.{ℕ, ◌+◌, Bool, cond, not, ◌&&◌, ◌||◌, List, [], ◌∷◌, length, Some, None, Ok, Err, Option, Result, ◌==◌, nat_le}
 use Rattle.families.specs.Chain.{has, links}
 use Rattle.lines.specs.Fault.{fault_at, then}
 use Rattle.lines.specs.declared.fault.Fault.{Fault}

@@ -1,5 +1,5 @@
 -- Marking a whole family pack, under the measure and the price with its numbers. Assumes nothing.
-use Rattle.std.specs.Prelude.{◌≡◌, ℕ, ◌↔◌, List, ◌++◌, length, take, drop, Ok, Err, Result}
+use Rattle.std.specs.Prelude.{◌≡◌, ℕ, ◌↔◌, List, ◌++◌, length, take, drop, Ok, Result}
 use Rattle.families.specs.Family.{Family, total}
 use Rattle.lines.specs.Fault.{then}
 use Rattle.lines.specs.Line.{judged_line}

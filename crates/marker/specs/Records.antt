@@ -1,5 +1,5 @@
 -- The chain and total records of a family pack. Assumes nothing.
-use Rattle.std.specs.Prelude.{◌≡◌, ℕ, zero, suc, ◌+◌, ◌-◌, ◌/◌, cond, List, [], ◌∷◌, ◌++◌, length, take, drop, Ok, Err, Result, ◌==◌, slice_index_or}
+use Rattle.std.specs.Prelude.{ℕ, zero, suc, ◌+◌, ◌-◌, ◌/◌, cond, List, [], ◌∷◌, ◌++◌, length, take, drop, Ok, Err, Result, ◌==◌, slice_index_or}
 use Rattle.std.specs.List.{flat_map}
 use Rattle.lines.specs.Fault.{fault, then}
 use Rattle.lines.specs.declared.fault.Fault.{Fault}

@@ -1,5 +1,5 @@
 -- Verdicts as text. Assumes nothing.
-use Rattle.std.specs.Prelude.{ℕ, List, [], ◌∷◌, ◌++◌, Ok, Err, codes, decimal, Result}
+use Rattle.std.specs.Prelude.{ℕ, List, ◌++◌, Ok, Err, codes, decimal, Result}
 use Rattle.lines.specs.Fault.{cause_number, layer_number}
 use Rattle.lines.specs.declared.fault.Fault.{Fault}
 

@@ -1,5 +1,5 @@
 -- The segment measure: every skipped vertex lies within the tolerance of the segment. Assumes nothing.
-use Rattle.std.specs.Prelude.{ℕ, ◌*◌, Bool, cond, ℤ, pos, ◌*ℤ◌, int_le}
+use Rattle.std.specs.Prelude.{ℕ, ◌*◌, Bool, cond, pos, ◌*ℤ◌, int_le}
 use Rattle.lines.specs.declared.vertex.Vertex.{Vertex}
 use Rattle.measures.specs.Measure.{Answer}
 use Rattle.measures.specs.Plane.{dot, cross, squared, each_skipped}

@@ -1,5 +1,5 @@
 -- The strip measure: every skipped vertex lies within the tolerance of the straight line through the ends. Assumes nothing.
-use Rattle.std.specs.Prelude.{ℕ, ◌*◌, Bool, cond, ℤ, pos, ◌*ℤ◌, ◌==◌, int_le, unsigned_abs}
+use Rattle.std.specs.Prelude.{ℕ, ◌*◌, Bool, cond, pos, ◌*ℤ◌, ◌==◌, int_le, unsigned_abs}
 use Rattle.lines.specs.declared.vertex.Vertex.{Vertex}
 use Rattle.measures.specs.Measure.{Answer}
 use Rattle.measures.specs.Plane.{cross, squared, each_skipped}

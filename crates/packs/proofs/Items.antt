@@ -1,6 +1,6 @@
 -- Items of one width in a byte string. Assumes nothing.
-use Rattle.std.proofs.Common.{◌≡◌, ℕ, zero, suc, ◌+◌, ◌-◌, ◌*◌, ◌<◌, ◌≤◌, List, [], ◌∷◌, ◌++◌, length, get_or, take, drop, set, sym, refl, ap, ◌∙◌, add_comm, mul-zero, mul-suc, add-one, arith}
-use Rattle.std.proofs.lemmas.List.{drop-drop, take_more_set, take_all}
+use Rattle.std.proofs.Common.{◌≡◌, ℕ, zero, suc, ◌+◌, ◌*◌, ◌<◌, List, [], ◌∷◌, ◌++◌, length, get_or, take, drop, set, sym, refl, ap, ◌∙◌, add_comm, mul-zero, mul-suc, add-one, arith}
+use Rattle.std.proofs.lemmas.List.{drop-drop, take_more_set}
 use Rattle.packs.specs.Job.{items}
 
 module _ {X : Type 0} (w : ℕ) (from : List ℕ → X) where

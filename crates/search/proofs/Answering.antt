@@ -1,5 +1,5 @@
 -- What the answer of a search says of the family that it left. Assumes nothing.
-use Rattle.std.proofs.Common.{◌≡◌, ℕ, ◌-◌, Bool, true, List, length, is_ok, IfOk, IfErr, Ok, Err, Decides, Result, sym, refl, ap, ◌∙◌, arith, MatchResult}
+use Rattle.std.proofs.Common.{◌≡◌, ℕ, ◌-◌, true, List, length, is_ok, IfOk, IfErr, Ok, Err, Decides, Result, sym, refl, ap, ◌∙◌, MatchResult}
 use Rattle.families.specs.Price as prices
 use Rattle.families.specs.Least.{L}
 use Rattle.lines.specs.Fault.{then}

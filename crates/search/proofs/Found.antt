@@ -1,11 +1,11 @@
 -- What a search found, by the measure's own answers. Assumes nothing.
-use Rattle.std.proofs.Common.{◌≡◌, ℕ, ◌+◌, ◌-◌, ◌*◌, ◌<◌, ◌≤◌, Bool, cond, ltb, List, length, get_or, drop, sym, refl, ap, ◌∙◌, subst, ap₂, inr, ⊎_elim, arith}
+use Rattle.std.proofs.Common.{◌≡◌, ℕ, ◌+◌, ◌-◌, ◌<◌, ◌≤◌, Bool, cond, List, length, get_or, drop, sym, refl, ap, ◌∙◌, subst, ap₂, ⊎_elim, arith}
 use Rattle.std.proofs.lemmas.List.{get_or-drop, length-drop, same_lists}
 use Rattle.std.proofs.lemmas.Bool.{cases_lt}
 use Rattle.families.specs.Price as prices
 use Rattle.families.specs.Family.{total}
 use Rattle.families.specs.Least.{L, first_least}
-use Rattle.families.specs.Stay.{stay, read_off}
+use Rattle.families.specs.Stay.{stay}
 use Rattle.families.proofs.LeastTotal.{L_end}
 use Rattle.families.proofs.Onward.{ltb_yes, ltb_no}
 use Rattle.families.proofs.FirstLeast.{stands}
@@ -17,10 +17,10 @@ use Rattle.lines.specs.declared.level.Level.{Level}
 use Rattle.lines.specs.declared.vertex.Vertex.{Vertex}
 use Rattle.measures.specs.Measure.{Answer, Rules, allowed_by}
 use Rattle.tables.specs.Grade.{Graded, first_level, by_grade}
-use Rattle.tables.specs.Row.{KeptOutside, TableHolds}
+use Rattle.tables.specs.Row.{TableHolds}
 use Rattle.tables.proofs.Filling.{get_d_any}
 use Rattle.tables.proofs.Grades.{tells, reaches_allowed}
-use Rattle.search.specs.Search.{Cells, Least, RestKept}
+use Rattle.search.specs.Search.{Cells, Least}
 use Rattle.search.proofs.Agreeing.{least_same, stays_same}
 use Rattle.search.proofs.Lawful.{rising_allowed, next_allowed}
 

@@ -1,5 +1,5 @@
 -- A search is granted exactly when levels are lawful and the memory suffices. Assumes nothing.
-use Rattle.std.proofs.Common.{◌≡◌, ℕ, ◌*◌, ◌≤◌, Bool, true, false, cond, ◌&&◌, leb, List, length, is_ok, Ok, Err, Decides, Result, sym, refl, ap, ◌∙◌, subst}
+use Rattle.std.proofs.Common.{◌≡◌, ℕ, ◌*◌, Bool, true, false, cond, List, length, is_ok, Ok, Err, Decides, Result, sym, refl, ap, ◌∙◌}
 use Rattle.std.proofs.lemmas.Bool.{and_parts, and_from, leb-true, le-leb}
 use Rattle.lines.specs.Fault.{then}
 use Rattle.lines.specs.Level.{judged_count, judged_levels}

@@ -1,5 +1,5 @@
 -- Under lawful levels, what a measure allows at a level it allows at the levels after it. Assumes nothing.
-use Rattle.std.proofs.Common.{◌≡◌, ℕ, zero, suc, ◌+◌, ◌-◌, ◌<◌, ◌≤◌, Bool, true, false, T, List, length, get_or, sym, refl, ap, subst, add-one, arith}
+use Rattle.std.proofs.Common.{◌≡◌, ℕ, zero, suc, ◌+◌, ◌-◌, ◌<◌, ◌≤◌, Bool, true, false, T, List, length, get_or, sym, refl, subst, add-one, arith}
 use Rattle.families.specs.Theorems.{NextAllowed}
 use Rattle.lines.specs.Line.{Lawful}
 use Rattle.lines.specs.Level.{level, level_of, LawfulLevels}

@@ -1,5 +1,5 @@
 -- What is read off a filled price table. Assumes nothing.
-use Rattle.std.proofs.Common.{◌≡◌, ℕ, zero, suc, ◌+◌, ◌<◌, ◌≤◌, Bool, true, cond, ◌&&◌, ltb, leb, List, get_or, sym, refl, ap, ◌∙◌, arith}
+use Rattle.std.proofs.Common.{◌≡◌, ℕ, zero, suc, ◌+◌, ◌<◌, ◌≤◌, Bool, true, cond, List, get_or, sym, refl, ap, ◌∙◌, arith}
 use Rattle.families.specs.Price.{Kind}
 use Rattle.families.specs.Least.{L}
 use Rattle.families.proofs.LeastTotal.{L_zero}

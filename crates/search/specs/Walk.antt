@@ -1,5 +1,5 @@
 -- The vertices between two others in the first least family. Assumes nothing.
-use Rattle.std.specs.Prelude.{ℕ, Bool, List, ◌∷◌}
+use Rattle.std.specs.Prelude.{ℕ, Bool, ◌∷◌}
 use Rattle.families.specs.Price.{Kind}
 use Rattle.families.specs.Least.{walk}
 use Rattle.families.specs.Stay.{stay}

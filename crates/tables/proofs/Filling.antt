@@ -1,5 +1,5 @@
 -- How a row of the price table fills. Assumes nothing.
-use Rattle.std.proofs.Common.{◌≡◌, ℕ, zero, suc, ◌+◌, ◌-◌, ◌<◌, ◌≤◌, min, Bool, true, false, cond, leb, ◌≢◌, ◌⊎◌, List, [], ◌∷◌, length, get_or, set, sym, refl, ap, ◌∙◌, subst, ap₂, inl, inr, ⊎_elim, add-one, arith}
+use Rattle.std.proofs.Common.{◌≡◌, ℕ, zero, suc, ◌+◌, ◌-◌, ◌<◌, ◌≤◌, min, Bool, true, false, cond, leb, ◌≢◌, List, [], ◌∷◌, length, get_or, set, sym, refl, ap, ◌∙◌, subst, ap₂, inl, inr, ⊎_elim, add-one, arith}
 use Rattle.std.proofs.lemmas.List.{get_or-set_same, get_or-set_other}
 use Rattle.std.proofs.lemmas.Bool.{cases_lt, cases_eq, cond-true, cond-false}
 use Rattle.families.specs.Price.{Kind, cheaper}
@@ -7,7 +7,7 @@ use Rattle.families.specs.Least.{L, cheapest}
 use Rattle.families.proofs.LeastTotal.{L_zero, L_end, L_eq}
 use Rattle.families.proofs.Onward.{leb_yes, leb_no}
 use Rattle.tables.specs.Price.{row}
-use Rattle.tables.specs.Row.{KeptOutside, taken, head, candidate, RowHolds, RowsHold, RowSoFar, TableHolds}
+use Rattle.tables.specs.Row.{KeptOutside, taken, head, candidate, RowHolds, RowsHold, RowSoFar}
 use Rattle.tables.proofs.Places.{row_after, row_before}
 
 -- a cell in the memory is the same whatever stands for one past it

@@ -1,5 +1,5 @@
 -- Where rows lie. Assumes nothing.
-use Rattle.std.proofs.Common.{◌≡◌, ℕ, ◌+◌, ◌-◌, ◌*◌, ◌<◌, ◌≤◌, sym, ap, ◌∙◌, subst, mul-le-mul_right, mul_assoc, add-mul, one-mul, arith}
+use Rattle.std.proofs.Common.{◌≡◌, ℕ, ◌+◌, ◌-◌, ◌*◌, ◌<◌, ◌≤◌, sym, mul-le-mul_right, mul_assoc, add-mul, one-mul, arith}
 use Rattle.tables.specs.Price.{row}
 
 -- a stretch of n lies whole below the next

@@ -1,4 +1,4 @@
-use Rattle.std.proofs.Common.{◌≡◌, ◌-◌, take, sym, refl, ap, subst, arith}
+use Rattle.std.proofs.Common.{◌≡◌, ◌-◌, take, refl, ap, subst, arith}
 use Rattle.packs.specs.Kind.{measure_largest}
 use Rattle.marker.specs.Pack.{measure_says}
 use Rattle.drawings.specs.Pack.{Drawable}

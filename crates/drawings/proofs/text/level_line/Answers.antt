@@ -1,6 +1,6 @@
 use Rattle.std.proofs.Common.{◌≡◌, ◌-◌, ◌++◌, length, ap, ◌∙◌, append_assoc}
 use Rattle.std.specs.List.{flat_map}
-use Rattle.drawings.specs.Text.{vertex_text, level_text}
+use Rattle.drawings.specs.Text.{vertex_text}
 use Rattle.drawings.proofs.text.level_line.Goals as goal
 
 pub returns : goal.returns

@@ -1,5 +1,5 @@
-use Rattle.std.proofs.Common.{◌≡◌, ℕ, ◌+◌, ◌-◌, ◌<◌, ◌≤◌, length, get_or, drop}
-use Rattle.lines.specs.Level.{level, judged_from, judged_levels}
+use Rattle.std.proofs.Common.{◌≡◌, ◌+◌, ◌≤◌, drop}
+use Rattle.lines.specs.Level.{judged_from, judged_levels}
 use Rattle.lines.proofs.level.check_levels.Given as goal
 
 abbrev pub invariant-loop-i : goal.invariant-loop-i

@@ -1,4 +1,4 @@
-use Rattle.std.proofs.Common.{◌≡◌, ◌≤◌, length, drop}
+use Rattle.std.proofs.Common.{◌≡◌, length, drop}
 use Rattle.marker.specs.Records.{numbers}
 use Rattle.marker.specs.Judge.{disorder_from, disorder}
 use Rattle.marker.proofs.chain.first_disorder.Given as goal

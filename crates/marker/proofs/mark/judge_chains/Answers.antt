@@ -1,9 +1,9 @@
-use Rattle.std.proofs.Common.{◌≡◌, ℕ, ◌+◌, ◌-◌, ◌<◌, ◌≤◌, Bool, true, length, drop, is_ok, Err, sym, refl, ap, ◌∙◌, subst, inl, inr, ⊎_elim, arith}
+use Rattle.std.proofs.Common.{◌≡◌, ℕ, ◌+◌, ◌-◌, ◌≤◌, Bool, true, length, drop, is_ok, Err, sym, refl, ap, ◌∙◌, subst, inl, inr, ⊎_elim, arith}
 use Rattle.std.proofs.lemmas.Result.{err_from_is_err_and}
 use Rattle.packs.specs.Bytes.{field}
 use Rattle.marker.specs.Records.{numbers, body_of, chains_in, chains_end}
-use Rattle.marker.specs.Judge.{judged_from, judged_chain}
-use Rattle.marker.proofs.Stepping.{inside, next_sound, judged_further, judged_refused, judged_start, judged_end}
+use Rattle.marker.specs.Judge.{judged_from}
+use Rattle.marker.proofs.Stepping.{inside, next_sound, judged_further, judged_refused, judged_start}
 use Rattle.marker.proofs.mark.judge_chains.Goals as goal
 
 pub loop-i-init : goal.loop-i-init

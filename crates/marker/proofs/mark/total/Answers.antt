@@ -1,9 +1,6 @@
-use Rattle.std.proofs.Common.{◌≡◌, ℕ, ◌+◌, ◌-◌, ◌<◌, true, length, get_or, drop, is_ok, sym, refl, ap, ◌∙◌, subst, ap₂, arith}
-use Rattle.families.specs.Chain.{links}
-use Rattle.families.specs.Family.{cost}
+use Rattle.std.proofs.Common.{◌≡◌, ◌+◌, ◌-◌, ◌<◌, true, length, drop, is_ok, sym, ap, ◌∙◌, subst, ap₂, arith}
 use Rattle.packs.specs.Bytes.{field}
-use Rattle.lines.specs.Level.{level}
-use Rattle.marker.specs.Records.{numbers, body_of, chains_in, chains_end}
+use Rattle.marker.specs.Records.{numbers, chains_in, chains_end}
 use Rattle.marker.proofs.Stepping.{inside, next_sound, chain_here, chains_further, length_chains, total_more}
 use Rattle.marker.proofs.mark.total.Goals as goal
 

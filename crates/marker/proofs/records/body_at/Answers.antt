@@ -1,4 +1,4 @@
-use Rattle.std.proofs.Common.{length, sym, ap, ◌∙◌}
+use Rattle.std.proofs.Common.{length, ap, ◌∙◌}
 use Rattle.marker.proofs.Walking.{body_part, body_length}
 use Rattle.marker.proofs.records.body_at.Goals as goal
 

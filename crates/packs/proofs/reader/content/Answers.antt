@@ -1,6 +1,5 @@
 use Rattle.std.proofs.Common.{Err, sym, ap, ◌∙◌}
 use Rattle.std.proofs.lemmas.Result.{err_from_is_err_and}
-use Rattle.std.specs.Option as options
 use Rattle.packs.specs.Kind.{measure_numbered, price_numbered}
 use Rattle.packs.specs.Job.{summed_up, placed_vertices, placed_levels}
 use Rattle.packs.proofs.Layouts.{content_refused}

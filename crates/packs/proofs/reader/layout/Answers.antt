@@ -1,4 +1,4 @@
-use Rattle.std.proofs.Common.{sym, ◌∙◌}
+use Rattle.std.proofs.Common.{sym}
 use Rattle.packs.proofs.Layouts.{laid_out_by, within_by}
 use Rattle.packs.proofs.reader.layout.Goals as goal
 

@@ -1,7 +1,5 @@
-use Rattle.std.proofs.Common.{◌≡◌, drop, sym, ap, ◌∙◌, ap₂}
-use Rattle.std.proofs.lemmas.List.{drop-drop}
+use Rattle.std.proofs.Common.{sym, ◌∙◌, ap₂}
 use Rattle.lines.specs.Level.{level}
-use Rattle.packs.specs.Bytes.{field}
 use Rattle.packs.proofs.Records.{field_drop}
 use Rattle.packs.proofs.reader.level_at.Goals as goal
 

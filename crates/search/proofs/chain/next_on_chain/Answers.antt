@@ -1,4 +1,4 @@
-use Rattle.std.proofs.Common.{ℕ, ◌-◌, ◌^◌, ◌<◌, length, get_or, arith, rules}
+use Rattle.std.proofs.Common.{ℕ, ◌^◌, ◌<◌, length, get_or, arith, rules}
 use Rattle.search.proofs.Staying.{next_found, next_none}
 use Rattle.search.proofs.chain.next_on_chain.Goals as goal
 

@@ -1,4 +1,4 @@
-use Rattle.std.proofs.Common.{◌≡◌, ℕ, ◌<◌, ◌≤◌, [], ◌∷◌, ◌++◌, length, get_or, vec_items, ap, ◌∙◌, arith, rules}
+use Rattle.std.proofs.Common.{ℕ, ◌<◌, ◌≤◌, length, get_or, vec_items, ap, ◌∙◌, arith}
 use Rattle.families.specs.Stay.{read_off}
 use Rattle.search.proofs.Staying.{gathered_kept, gathered_left}
 use Rattle.search.proofs.chain.read_chain.Goals as goal

@@ -1,4 +1,4 @@
-use Rattle.std.proofs.Common.{◌≡◌, ◌-◌, ◌*◌, length, get_or, sym, ap, ◌∙◌, subst, inr, rules}
+use Rattle.std.proofs.Common.{◌≡◌, ◌*◌, length, get_or, sym, ap, ◌∙◌, subst, inr}
 use Rattle.prices.specs.Price.{price_by}
 use Rattle.tables.specs.Grade.{by_grade}
 use Rattle.tables.specs.Row.{TableHolds}

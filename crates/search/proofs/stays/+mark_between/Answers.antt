@@ -1,4 +1,4 @@
-use Rattle.std.proofs.Common.{◌≡◌, ℕ, ◌+◌, ◌-◌, ◌*◌, ◌<◌, ◌≤◌, ◌⊎◌, length, get_or, sym, refl, ap, ◌∙◌, inl, inr, ⊎_elim, arith, rules}
+use Rattle.std.proofs.Common.{◌-◌, ◌∙◌, inl, inr, arith, rules}
 use Rattle.families.proofs.Next.{next_range}
 use Rattle.prices.specs.Price.{price_by}
 use Rattle.tables.specs.Grade.{by_grade}

@@ -1,4 +1,4 @@
-use Rattle.std.proofs.Common.{ℕ, ◌∙◌, inr, arith, rules}
+use Rattle.std.proofs.Common.{◌∙◌, inr, arith, rules}
 use Rattle.tables.proofs.Cells.{write_out}
 use Rattle.search.proofs.Marking.{zero_in}
 use Rattle.search.proofs.stays.clear_stays.Goals as goal

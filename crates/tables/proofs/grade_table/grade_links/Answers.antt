@@ -1,5 +1,4 @@
-use Rattle.std.proofs.Common.{◌≡◌, ℕ, ◌+◌, ◌*◌, ◌<◌, ◌≤◌, length, get_or, sym, ap, ◌∙◌, inl, inr, ⊎_elim, arith, rules}
-use Rattle.std.proofs.lemmas.Bool.{cases_lt}
+use Rattle.std.proofs.Common.{ℕ, length, ◌∙◌, arith, rules}
 use Rattle.tables.specs.Grade.{grade_cell}
 use Rattle.tables.proofs.Grades.{graded_more, graded_inside, graded_past}
 use Rattle.tables.proofs.grade_table.grade_links.Goals as goal

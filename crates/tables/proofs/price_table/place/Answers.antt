@@ -1,4 +1,4 @@
-use Rattle.std.proofs.Common.{ap, ◌∙◌, rules}
+use Rattle.std.proofs.Common.{rules}
 use Rattle.tables.proofs.PriceCells.{place_in, place_out}
 use Rattle.tables.proofs.price_table.place.Goals as goal
 

@@ -1,4 +1,4 @@
-use Rattle.std.proofs.Common.{ℕ, ◌+◌, ◌∙◌, inl, inr, ⊎_elim, arith, rules}
+use Rattle.std.proofs.Common.{◌+◌, ◌∙◌, inl, inr, ⊎_elim, arith, rules}
 use Rattle.tables.proofs.Cells.{write_in, write_out}
 use Rattle.tables.proofs.rows.clear.Goals as goal
 

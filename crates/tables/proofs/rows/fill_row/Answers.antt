@@ -1,4 +1,4 @@
-use Rattle.std.proofs.Common.{◌≡◌, ℕ, ◌+◌, ◌-◌, ◌*◌, ◌<◌, ◌≤◌, ◌⊎◌, length, get_or, sym, refl, ap, ◌∙◌, subst, inl, inr, ⊎_elim, arith, rules}
+use Rattle.std.proofs.Common.{◌≡◌, ◌+◌, refl, ◌∙◌, subst, inr, ⊎_elim, arith, rules}
 use Rattle.prices.specs.Price.{price_by}
 use Rattle.tables.specs.Grade.{by_grade}
 use Rattle.tables.specs.Price.{row}

@@ -1,4 +1,4 @@
-use Rattle.std.proofs.Common.{◌≡◌, ◌+◌, ◌-◌, ◌*◌, ◌<◌, ◌≤◌, true, false, sym, ap, ◌∙◌, arith, rules}
+use Rattle.std.proofs.Common.{sym, ap, ◌∙◌, arith, rules}
 use Rattle.families.proofs.Onward.{leb_yes, leb_no}
 use Rattle.prices.specs.Price.{price_by}
 use Rattle.tables.specs.Grade.{by_grade, reaches}

@@ -1,4 +1,4 @@
-use Rattle.std.proofs.Common.{◌≡◌, true, false, sym, refl, ◌∙◌, inl, inr, arith, rules, below_more}
+use Rattle.std.proofs.Common.{false, sym, refl, ◌∙◌, inr, arith, below_more}
 use Rattle.std.proofs.lemmas.List.{at_drop_all}
 use Rattle.std.proofs.lemmas.Bool.Decides.{not_from_Decides}
 use Rattle.lines.specs.Line.{ranged_from}

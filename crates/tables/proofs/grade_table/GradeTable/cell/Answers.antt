@@ -1,4 +1,4 @@
-use Rattle.std.proofs.Common.{◌+◌, ◌*◌, ◌^◌, ◌<◌, length, get_or, sym, ap, arith, rules}
+use Rattle.std.proofs.Common.{◌+◌, ◌*◌, length, get_or, sym, ap, rules}
 use Rattle.std.proofs.lemmas.List.{get_or_past}
 use Rattle.tables.proofs.Cells.{in_memory, past_memory}
 use Rattle.tables.proofs.grade_table.GradeTable.cell.Goals as goal

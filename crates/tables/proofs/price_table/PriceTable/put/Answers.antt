@@ -1,5 +1,5 @@
-use Rattle.std.proofs.Common.{◌≡◌, sym, refl, ◌∙◌, subst}
-use Rattle.tables.specs.Price.{price_put, ReadsBack}
+use Rattle.std.proofs.Common.{◌≡◌, sym, refl, ◌∙◌}
+use Rattle.tables.specs.Price.{price_put}
 use Rattle.tables.proofs.PriceCells.{at_place, no_place, put_so}
 use Rattle.tables.proofs.price_table.PriceTable.put.Goals as goal
 
