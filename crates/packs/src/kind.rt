@@ -1,7 +1,10 @@
 ghost use Rattle.std.specs.Prelude.{◌≡◌};
 ghost use Rattle.packs.specs.Kind.{measure_numbered, price_numbered, measure_largest};
 
+use measures::area::Area;
 use measures::measure::Measure;
+use measures::segment::Segment;
+use measures::strip::Strip;
 
 // The measures that packs name by a number.
 #[derive(Clone, Copy, PartialEq, Eq, Debug)]
@@ -36,9 +39,9 @@ impl MeasureKind {
         ensures { result ≡ measure_largest self }
     {
         match self {
-            MeasureKind::Segment => <measures::segment::Segment as Measure>::largest_tolerance(),
-            MeasureKind::Strip => <measures::strip::Strip as Measure>::largest_tolerance(),
-            MeasureKind::Area => <measures::area::Area as Measure>::largest_tolerance(),
+            MeasureKind::Segment => Segment::largest_tolerance(),
+            MeasureKind::Strip => Strip::largest_tolerance(),
+            MeasureKind::Area => Area::largest_tolerance(),
         }
     }
 }
