@@ -1,7 +1,7 @@
 -- The first least family is a family, and L is what it costs. Assumes nothing.
 use Rattle.std.proofs.Common.{◌≡◌, ℕ, zero, suc, ◌-◌, ◌<◌, ◌≤◌, Bool, T, ◌⊎◌, List, [], ◌∷◌, ◌++◌, sym, refl, ap, ◌∙◌, subst, inl, inr, ⊎_elim, arith}
 use native.Mathlib.Decide.{dec_lt, dec_le}
-use Rattle.std.specs.List.{AllByRecursion as All}
+use Rattle.std.specs.List.{AllByRecursion}
 use Rattle.std.proofs.ByRecursion.{All-append}
 use Rattle.families.specs.Price.{Kind, Rules, Same}
 use Rattle.families.specs.Chain.{Rises, Has, links_from}
@@ -80,7 +80,7 @@ module _ {P : Type 0} {K : Kind P} (rules : Rules K) (price : ℕ → ℕ → �
 
   -- the links of the walk at level l are allowed there
   abbrev Fine : ℕ → ℕ → List ℕ → Type 0
-  Fine l i vs = All (λ x. T (allowed l x.0 x.1)) (links_from i vs)
+  Fine l i vs = AllByRecursion (λ x. T (allowed l x.0 x.1)) (links_from i vs)
 
   walk_fine : (k l : ℕ) → k ≤ m → 1 ≤ l → l ≤ k → (i j : ℕ) → i ≤ j → j ≤ n - 1 → Fine l i (W k l i j)
   walk_fine zero l q a b i j h u = absurd (omega arith)

@@ -2,7 +2,7 @@
 use Rattle.std.proofs.Common.{ℕ, ◌-◌, ◌<◌, ◌≤◌, not, ◌&&◌, T, ltb, ◌⊎◌, List, [], ◌∷◌, refl, inl, inr, ⊎_elim, arith, ltb→lt, lt→ltb, T_not}
 use native.Mathlib.Decide.{dec_lt, dec_le}
 use lib.Dec.{not_T}
-use Rattle.std.specs.List.{AllByRecursion as All}
+use Rattle.std.specs.List.{AllByRecursion}
 use Rattle.std.proofs.ByRecursion.{All-weaker}
 use Rattle.families.specs.Chain.{Rises, Has, links_from, links}
 use Rattle.families.specs.Pin.{Skips, clear, pinned}
@@ -27,7 +27,7 @@ says_clear (x ∷ ps) i j f =
 
 -- a rise that has every pin past its start skips none
 skips_from : (pins : List ℕ) (a e : ℕ) (bs : List ℕ) → Rises a e bs → ((p : ℕ) → Has pins p → (p ≤ a) ⊎ Has bs p) →
-    All (λ l. (p : ℕ) → Has pins p → ¬ Skips l p) (links_from a bs)
+    AllByRecursion (λ l. (p : ℕ) → Has pins p → ¬ Skips l p) (links_from a bs)
 skips_from pins a e [] r f = tt
 skips_from pins a e (b ∷ bs) r f = (λ p h s. none p s (f p h), skips_from pins b e bs r.1 (λ p h. onward p (f p h)))
   where
@@ -41,7 +41,7 @@ skips_from pins a e (b ∷ bs) r f = (λ p h s. none p s (f p h), skips_from pin
     none p s (inr x) = let l = s.1 in let k = rises_least b e p bs r.1 x in omega arith
 
 -- a rise that skips no pin has each pin between its ends
-has_from : (pins : List ℕ) (a e : ℕ) (bs : List ℕ) → Rises a e bs → All (λ l. (p : ℕ) → Has pins p → ¬ Skips l p) (links_from a bs) →
+has_from : (pins : List ℕ) (a e : ℕ) (bs : List ℕ) → Rises a e bs → AllByRecursion (λ l. (p : ℕ) → Has pins p → ¬ Skips l p) (links_from a bs) →
     (p : ℕ) → Has pins p → a ≤ p → p ≤ e → Has (a ∷ bs) p
 has_from pins a e [] r q p h low high = inl (omega arith)
 has_from pins a e (b ∷ bs) r q p h low high = go (dec_le p a) (dec_lt p b) (λ l. has_from pins b e bs r.1 q.1 p h l high)
@@ -58,7 +58,7 @@ pins_on_chain n pins (a ∷ bs) inner r = (
   λ q p h. let l = inner p h in has_from pins a (n - 1) bs r.1 q p h (omega arith) (omega arith),
 )
 
-all_zip : {X : Type 0} (P Q R : X → Type 0) → ((x : X) → P x → Q x → R x) → (xs : List X) → All P xs → All Q xs → All R xs
+all_zip : {X : Type 0} (P Q R : X → Type 0) → ((x : X) → P x → Q x → R x) → (xs : List X) → AllByRecursion P xs → AllByRecursion Q xs → AllByRecursion R xs
 all_zip P Q R f [] p q = tt
 all_zip P Q R f (x ∷ xs) p q = (f x p.0 q.0, all_zip P Q R f xs p.1 q.1)
 

@@ -1,6 +1,6 @@
 -- What the part of a chain between two of its vertices costs. Assumes nothing.
 use Rattle.std.proofs.Common.{◌≡◌, ℕ, ◌-◌, ◌<◌, ◌≤◌, Bool, true, false, ◌&&◌, T, leb, ◌⊎◌, List, [], ◌∷◌, sym, refl, subst, ap₂, inl, inr, arith, leb→le}
-use Rattle.std.specs.List.{AllByRecursion as All}
+use Rattle.std.specs.List.{AllByRecursion}
 use Rattle.families.specs.Price.{Kind, Rules}
 use Rattle.families.specs.Chain.{Rises, Chain, Has, links_from, links}
 use Rattle.families.specs.Family.{cost}
@@ -96,7 +96,7 @@ module _ {P : Type 0} {K : Kind P} (rules : Rules K) (price : ℕ → ℕ → �
   seg_split k i v j n (a ∷ bs) r (inl x) h g = split_from k i v j a (n - 1) bs r.1 h g (inl (omega arith))
   seg_split k i v j n (a ∷ bs) r (inr x) h g = split_from k i v j a (n - 1) bs r.1 h g (inr x)
 
-  next_from : (Q : ℕ × ℕ → Type 0) (k i j a e : ℕ) (bs : List ℕ) → Rises a e bs → All Q (links_from a bs) → i < j → Has (a ∷ bs) i →
+  next_from : (Q : ℕ × ℕ → Type 0) (k i j a e : ℕ) (bs : List ℕ) → Rises a e bs → AllByRecursion Q (links_from a bs) → i < j → Has (a ∷ bs) i →
       Has (a ∷ bs) j →
       (v : ℕ) × (i < v) × (v ≤ j) × Has bs v × Q (i, v) × Eqv K (seg_from K price k i v a bs) (price k i v)
   next_from Q k i j a e [] r q h (inl x) (inl y) = absurd (omega arith)
@@ -133,7 +133,7 @@ module _ {P : Type 0} {K : Kind P} (rules : Rules K) (price : ℕ → ℕ → �
       )
 
   -- the link of a chain that starts at i
-  pub seg_next : (Q : ℕ × ℕ → Type 0) (k i j n : ℕ) (c : List ℕ) → Chain n c → All Q (links c) → i < j → Has c i → Has c j →
+  pub seg_next : (Q : ℕ × ℕ → Type 0) (k i j n : ℕ) (c : List ℕ) → Chain n c → AllByRecursion Q (links c) → i < j → Has c i → Has c j →
       (v : ℕ) × (i < v) × (v ≤ j) × Has c v × Q (i, v) × Eqv K (seg K price k i v c) (price k i v)
   seg_next Q k i j n [] r q h x y = absurd r
   seg_next Q k i j n (a ∷ bs) r q h x y =

@@ -1,6 +1,6 @@
 -- Families of chains and what they cost. Assumes nothing.
 use Rattle.std.specs.Prelude.{ℕ, zero, suc, ◌<◌, ◌≤◌, Bool, T, List, [], ◌∷◌}
-use Rattle.std.specs.List.{AllByRecursion as All}
+use Rattle.std.specs.List.{AllByRecursion}
 use Rattle.families.specs.Price.{Kind}
 use Rattle.families.specs.Chain.{Chain, Has, links}
 
@@ -11,7 +11,7 @@ pub record Family (allowed : ℕ → ℕ → ℕ → Bool) (m n : ℕ) (chain : 
   -- each coarser chain uses only vertices of the next finer one
   pub nested : (k : ℕ) → 1 ≤ k → k < m → (v : ℕ) → Has (chain (suc k)) v → Has (chain k) v
   -- each link is allowed at its level
-  pub links_allowed : (k : ℕ) → 1 ≤ k → k ≤ m → All (λ l. T (allowed k l.0 l.1)) (links (chain k))
+  pub links_allowed : (k : ℕ) → 1 ≤ k → k ≤ m → AllByRecursion (λ l. T (allowed k l.0 l.1)) (links (chain k))
 
 -- `price k i j` is what the link i → j costs at level k.
 module _ {P : Type 0} (K : Kind P) (price : ℕ → ℕ → ℕ → P) where

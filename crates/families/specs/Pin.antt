@@ -1,6 +1,6 @@
 -- Pins: vertices that every chain must have. Assumes nothing.
 use Rattle.std.specs.Prelude.{ℕ, ◌-◌, ◌<◌, Bool, true, not, ◌&&◌, List, [], ◌∷◌, nat_lt}
-use Rattle.std.specs.List.{AllByRecursion as All}
+use Rattle.std.specs.List.{AllByRecursion}
 use Rattle.families.specs.Chain.{Has, links}
 
 -- A link skips the vertices strictly between its ends.
@@ -26,4 +26,4 @@ HasPins pins chain = (p : ℕ) → Has pins p → Has chain p
 
 -- No link of the chain skips a pin.
 abbrev pub SkipsNone : List ℕ → List ℕ → Type 0
-SkipsNone pins chain = All (λ l. (p : ℕ) → Has pins p → ¬ Skips l p) (links chain)
+SkipsNone pins chain = AllByRecursion (λ l. (p : ℕ) → Has pins p → ¬ Skips l p) (links chain)

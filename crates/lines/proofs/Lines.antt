@@ -1,7 +1,7 @@
 -- Judging vertices accepts exactly lawful lines, and names the lowest bad one. Assumes nothing.
 use Rattle.std.proofs.Common.{◌≡◌, ℕ, ◌+◌, ◌<◌, Bool, true, false, cond, ◌&&◌, T, leb, List, [], ◌∷◌, length, get_or, drop, ℤ, pos, negsuc, ◌≤ℤ◌, is_ok, Ok, Err, Decides, refl, ◌∙◌, arith}
 use lib.Signed.{le_z}
-use Rattle.std.specs.List.{AllByRecursion as All}
+use Rattle.std.specs.List.{AllByRecursion}
 use Rattle.std.proofs.lemmas.List.{at_drop_more}
 use Rattle.std.proofs.ByRecursion.{All-get_or, All-from_get_or}
 use Rattle.std.proofs.lemmas.Bool.{cond-true, cond-false, and_parts, leb-true}
@@ -46,11 +46,11 @@ in_range_means v =
     let d = Decides-and _ _ (decides_le_z (negsuc 16383) v.x) (Decides-and _ _ (decides_le_z v.x (pos 16383)) (Decides-and _ _ (decides_le_z (negsuc 16383) v.y) (decides_le_z v.y (pos 16383)))) in
     (λ e. let p = d.0 e in (p.0, p.1.0, p.1.1.0, p.1.1.1), λ h. d.1 (h.0, (h.1, (h.2, h.3))))
 
-ranged_sound : (i : ℕ) (vs : List Vertex) → is_ok (ranged_from i vs) ≡ true → All InRange vs
+ranged_sound : (i : ℕ) (vs : List Vertex) → is_ok (ranged_from i vs) ≡ true → AllByRecursion InRange vs
 ranged_sound i [] h = tt
 ranged_sound i (v ∷ vs) h = let p = passed _ _ _ h in ((in_range_means v).0 p.0, ranged_sound (i + 1) vs p.1)
 
-ranged_complete : (i : ℕ) (vs : List Vertex) → All InRange vs → ranged_from i vs ≡ Ok tt
+ranged_complete : (i : ℕ) (vs : List Vertex) → AllByRecursion InRange vs → ranged_from i vs ≡ Ok tt
 ranged_complete i [] a = refl
 ranged_complete i (v ∷ vs) a = cond-true _ _ _ ((in_range_means v).1 a.0) ∙ ranged_complete (i + 1) vs a.1
 

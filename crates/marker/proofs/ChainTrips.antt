@@ -1,6 +1,6 @@
 -- Chain records written and read back. Assumes nothing.
 use Rattle.std.proofs.Common.{◌≡◌, ℕ, zero, suc, ◌+◌, ◌*◌, ◌/◌, ◌%◌, ◌<◌, ◌≤◌, true, List, [], ◌∷◌, ◌++◌, length, take, drop, Ok, sym, refl, ap, ◌∙◌, arith}
-use Rattle.std.specs.List.{flat_map, AllByRecursion as All}
+use Rattle.std.specs.List.{flat_map, AllByRecursion}
 use Rattle.std.proofs.lemmas.List.{append_assoc, append-nil, length-append, take_all, take_at}
 use Rattle.std.proofs.lemmas.Bool.{and_parts, and_from, leb-true, le-leb, eqb-true, eq-eqb}
 use Rattle.packs.specs.declared.record.Due.TheVariants.{Chain}
@@ -49,7 +49,7 @@ pub record ChainsRead (m at stop : ℕ) (rest : List ℕ) : Type 0 where
   pub left : List ℕ
   pub bytes : rest ≡ flat_map chain_record (chains_in m rest) ++ left
   pub ends : stop ≡ at + length (flat_map chain_record (chains_in m rest))
-  pub some : All (λ c. 1 ≤ length c) (chains_in m rest)
+  pub some : AllByRecursion (λ c. 1 ≤ length c) (chains_in m rest)
 
 pub chains_read : (n m at stop : ℕ) (rest : List ℕ) → Octets rest → chains_end n m at rest ≡ Ok stop → ChainsRead m at stop rest
 chains_read n zero at stop rest o h = let e = same_answer at stop h in record { left = rest; bytes = refl; ends = omega arith; some = tt }
@@ -73,7 +73,7 @@ chains_read n (suc m) at stop rest o h =
 
 -- A chain that is written as a record of a line of n vertices.
 abbrev pub Written : ℕ → List ℕ → Type 0
-Written n c = (2 ≤ length c) × (length c ≤ n) × All (λ v. v < 65536) c
+Written n c = (2 ≤ length c) × (length c ≤ n) × AllByRecursion (λ v. v < 65536) c
 
 -- one record that was written
 module _ (n at : ℕ) (c rest : List ℕ) (h : n ≤ 256) (w : Written n c) where
@@ -105,7 +105,7 @@ module _ (n at : ℕ) (c rest : List ℕ) (h : n ≤ 256) (w : Written n c) wher
       ap (λ m. items 2 number_from m body) k ∙ ap (items 2 number_from (length c)) (sym (append-nil body)) ∙
       items_joined 2 number_from (le 2) (λ v. v < 65536) (number_read 2) (length_le 2) c [] w.2
 
-pub chains_back : (n at : ℕ) (cs : List (List ℕ)) (rest : List ℕ) → n ≤ 256 → All (Written n) cs →
+pub chains_back : (n at : ℕ) (cs : List (List ℕ)) (rest : List ℕ) → n ≤ 256 → AllByRecursion (Written n) cs →
     (chains_end n (length cs) at (flat_map chain_record cs ++ rest) ≡ Ok (at + length (flat_map chain_record cs))) × (chains_in (length cs) (flat_map chain_record cs ++ rest) ≡ cs)
 chains_back n at [] rest h w = let e : at ≡ at + 0 = omega arith in (ap Ok e, refl)
 chains_back n at (c ∷ cs) rest h w =

@@ -1,6 +1,6 @@
 -- Judging accepts exactly families. Assumes nothing.
 use Rattle.std.proofs.Common.{◌≡◌, ℕ, zero, suc, ◌+◌, ◌-◌, ◌<◌, ◌≤◌, Bool, true, false, cond, T, ◌↔◌, List, [], ◌∷◌, length, get_or, Some, None, Ok, Err, Option, Result, sym, refl, subst, inl, inr, arith}
-use Rattle.std.specs.List.{AllByRecursion as All}
+use Rattle.std.specs.List.{AllByRecursion}
 use Rattle.std.proofs.ByRecursion.{All-weaker}
 use Rattle.std.proofs.lemmas.Bool.{false≢true}
 use Rattle.std.proofs.lemmas.Bool.Decides.{nat_tests}
@@ -50,19 +50,19 @@ ordered n (x ∷ xs) h k =
     let means = ordered_from n (length (x ∷ xs)) 0 0 x xs h (omega arith) in
     (λ e. let p = means.0 e in (p.1 refl, p.2), λ p. means.1 (omega arith, λ z. p.0, p.1))
 
-all_pass : {X : Type 0} (test : X → Bool) (i : ℕ) (xs : List X) → (first_failing test i xs ≡ None) ↔ All (λ x. test x ≡ true) xs
+all_pass : {X : Type 0} (test : X → Bool) (i : ℕ) (xs : List X) → (first_failing test i xs ≡ None) ↔ AllByRecursion (λ x. test x ≡ true) xs
 all_pass test i [] = (λ e. tt, λ p. refl)
 all_pass test i (x ∷ xs) =
     let here = finds_none (test x) i (first_failing test (i + 1) xs) in let rest = all_pass test (i + 1) xs in
     (λ e. let f = here.0 e in (f.0, rest.0 f.1), λ p. here.1 (p.0, rest.1 p.1))
 
 -- what holds of every number of a list, by the numbers that it has
-all_had : (P : ℕ → Type 0) (xs : List ℕ) → All P xs → (v : ℕ) → Has xs v → P v
+all_had : (P : ℕ → Type 0) (xs : List ℕ) → AllByRecursion P xs → (v : ℕ) → Has xs v → P v
 all_had P [] p v h = absurd h
 all_had P (x ∷ xs) p v (inl e) = subst P (sym e) p.0
 all_had P (x ∷ xs) p v (inr h) = all_had P xs p.1 v h
 
-had_all : (P : ℕ → Type 0) (xs : List ℕ) → ((v : ℕ) → Has xs v → P v) → All P xs
+had_all : (P : ℕ → Type 0) (xs : List ℕ) → ((v : ℕ) → Has xs v → P v) → AllByRecursion P xs
 had_all P [] f = tt
 had_all P (x ∷ xs) f = (f x (inl refl), had_all P xs (λ v h. f v (inr h)))
 
@@ -81,7 +81,7 @@ passes : (b : Bool) → T b → b ≡ true
 passes true t = refl
 passes false t = absurd t
 
-linked : (allowed : ℕ → ℕ → Bool) (c : List ℕ) → (forbidden allowed c ≡ None) ↔ All (λ l. T (allowed l.0 l.1)) (links c)
+linked : (allowed : ℕ → ℕ → Bool) (c : List ℕ) → (forbidden allowed c ≡ None) ↔ AllByRecursion (λ l. T (allowed l.0 l.1)) (links c)
 linked allowed c =
     let test : ℕ × ℕ → Bool = λ l. allowed l.0 l.1 in (
       λ e. All-weaker (λ l. test l ≡ true) (λ l. T (test l)) (λ l. holds (test l)) (links c) ((all_pass test 0 (links c)).0 e),
@@ -100,7 +100,7 @@ none_ok (Some spot) cause k = (λ e. cc, λ e. cc)
 record LevelHolds (allowed : ℕ → ℕ → Bool) (n : ℕ) (finer c : List ℕ) : Type 0 where
   rises : Chain n c
   within : (v : ℕ) → Has c v → Has finer v
-  allows : All (λ l. T (allowed l.0 l.1)) (links c)
+  allows : AllByRecursion (λ l. T (allowed l.0 l.1)) (links c)
 
 judged_level : (allowed : ℕ → ℕ → Bool) (n k : ℕ) (finer c : List ℕ) → 1 ≤ n → 1 ≤ length c →
     (judged_chain allowed n k finer c ≡ Ok tt) ↔ LevelHolds allowed n finer c
@@ -126,7 +126,7 @@ LevelsHold allowed n finer cs ls =
     (j : ℕ) → j < length ls → LevelHolds (allowed (get_or ls j (level 0 0)).tolerance) n (get_or (finer ∷ cs) j []) (get_or cs j [])
 
 judged_levels : (allowed : ℕ → ℕ → ℕ → Bool) (n k : ℕ) (finer : List ℕ) (cs : List (List ℕ)) (ls : List Level) →
-    1 ≤ n → length cs ≡ length ls → All (λ c. 1 ≤ length c) cs → (judged_from allowed n k finer cs ls ≡ Ok tt) ↔ LevelsHold allowed n finer cs ls
+    1 ≤ n → length cs ≡ length ls → AllByRecursion (λ c. 1 ≤ length c) cs → (judged_from allowed n k finer cs ls ≡ Ok tt) ↔ LevelsHold allowed n finer cs ls
 judged_levels allowed n k finer [] [] h len some = (λ e j l. absurd (omega arith), λ f. refl)
 judged_levels allowed n k finer [] (l ∷ ls) h len some = absurd (omega arith)
 judged_levels allowed n k finer (c ∷ cs) [] h len some = absurd (omega arith)
@@ -162,7 +162,7 @@ module _ (allowed : ℕ → ℕ → ℕ → Bool) (n : ℕ) (c : List ℕ) (cs :
       record {
         rises = subst (λ i. Chain n (get_or (c ∷ cs) i [])) e (fam.chains (suc j) (omega arith) b);
         within = under j b;
-        allows = subst (λ i. All (λ l. T (allowed (get_or ls i (level 0 0)).tolerance l.0 l.1)) (links (get_or (c ∷ cs) i []))) e
+        allows = subst (λ i. AllByRecursion (λ l. T (allowed (get_or ls i (level 0 0)).tolerance l.0 l.1)) (links (get_or (c ∷ cs) i []))) e
             (fam.links_allowed (suc j) (omega arith) b);
       }
     where

@@ -1,6 +1,6 @@
 -- Marking answers exactly the records of families. Assumes nothing.
 use Rattle.std.proofs.Common.{◌≡◌, ℕ, suc, ◌+◌, ◌-◌, ◌<◌, ◌≤◌, Bool, true, ◌↔◌, List, [], ◌++◌, length, get_or, drop, is_ok, Ok, sym, refl, ap, ◌∙◌, subst, ap₂, arith}
-use Rattle.std.specs.List.{flat_map, AllByRecursion as All}
+use Rattle.std.specs.List.{flat_map, AllByRecursion}
 use Rattle.std.proofs.ByRecursion.{All-from_get_or, All-weaker}
 use Rattle.std.proofs.lemmas.List.{length-append, drop_at}
 use Rattle.std.proofs.lemmas.Bool.{cond-true, and_parts, and_from, leb-true, le-leb, eqb-true, eq-eqb}
@@ -88,7 +88,7 @@ module _ {P : Type 0} (K : Kind P) (link : LinkPrice P) (largest : ℕ) (says : 
     abbrev stop : ℕ
     stop = length J
 
-    written : All (Written (length vs)) F.chains
+    written : AllByRecursion (Written (length vs)) F.chains
     written = All-from_get_or (Written (length vs)) F.chains [] (λ j b.
         let e : suc j - 1 ≡ j = omega arith in
         let k = F.chain_count in

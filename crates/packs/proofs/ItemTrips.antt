@@ -1,7 +1,7 @@
 -- Items of one width written and read back. Assumes nothing.
 use Rattle.std.proofs.Common.{◌≡◌, ℕ, zero, suc, ◌+◌, ◌*◌, ◌^◌, ◌<◌, ◌≤◌, List, [], ◌∷◌, ◌++◌, length, take, drop, ℤ, pos, negsuc, ◌≤ℤ◌, sym, refl, ap, ◌∙◌, add_comm, mul-zero, mul-suc, arith, length-drop, take-add}
 use lib.Signed.{mag}
-use Rattle.std.specs.List.{flat_map, AllByRecursion as All}
+use Rattle.std.specs.List.{flat_map, AllByRecursion}
 use Rattle.std.proofs.lemmas.List.{append_assoc, length-append, drop_at}
 use Rattle.std.proofs.lemmas.Int.{ints}
 use Rattle.lines.specs.Vertex.{at, InRange}
@@ -33,7 +33,7 @@ module _ {X : Type 0} (w : ℕ) (from : List ℕ → X) (to : X → List ℕ) wh
 
   -- reading what was written
   pub items_joined : (P : X → Type 0) → ((x : X) (rest : List ℕ) → P x → from (to x ++ rest) ≡ x) → ((x : X) → length (to x) ≡ w) →
-      (xs : List X) (rest : List ℕ) → All P xs → items w from (length xs) (flat_map to xs ++ rest) ≡ xs
+      (xs : List X) (rest : List ℕ) → AllByRecursion P xs → items w from (length xs) (flat_map to xs ++ rest) ≡ xs
   items_joined P f l [] rest a = refl
   items_joined P f l (x ∷ xs) rest a =
       let e = append_assoc (to x) (flat_map to xs) rest in
