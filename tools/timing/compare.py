@@ -1,14 +1,14 @@
 #!/usr/bin/env python3
 """Times the library beside plain Rust, in one run, and prints medians in milliseconds.
 
-Usage, from the top of the repository, after `rt check timing`: tools/timing/compare.py [RUNS]
+Usage, from the top of the repository, after `rt run` in crates/timing: tools/timing/compare.py [RUNS]
 Both programs do the same work on the same lines; their totals are compared, and then their times."""
 import os, statistics, subprocess, sys, tempfile
 
 here = os.path.dirname(os.path.abspath(__file__))
 top = os.path.dirname(os.path.dirname(here))
 runs = int(sys.argv[1]) if len(sys.argv) > 1 else 9
-ours = os.path.join(top, "target/bin/timing")
+ours = os.path.join(top, "crates/timing/out/timing")
 plain = os.path.join(tempfile.mkdtemp(), "plain")
 subprocess.check_call(["rustc", "-C", "opt-level=3", "-o", plain, os.path.join(here, "plain.rs")])
 

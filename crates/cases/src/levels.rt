@@ -5,6 +5,7 @@ use lines::line::Line;
 use lines::vertex::Vertex;
 use marker::mark::mark;
 use measures::segment::Segment;
+use prices::count::Count;
 use prices::price::Price;
 use std::process::Abort;
 use std::test::Fail;
@@ -24,7 +25,7 @@ fn level(tolerance: u32, weight: u32) -> Level {
 fn fault_of(levels: &[Level]) -> Result<Fault, Fail> {
     let mut line = Line::built_in();
     line.make(&ENDS)?;
-    match mark::<Segment, prices::count::Count>(&Segment, &line, levels, &ONE_LEVEL) {
+    match mark::<Segment, Count>(&Segment, &line, levels, &ONE_LEVEL) {
         Ok(_) => Err(Fail::new("accepted")),
         Err(fault) => Ok(fault),
     }
@@ -42,7 +43,7 @@ fn check_fault(rt: &impl Abort, levels: &[Level], cause: Cause, place: usize) ->
 fn accepts_one_level(rt: HostRuntime) -> Result<(), Fail> {
     let mut line = Line::built_in();
     line.make(&ENDS)?;
-    let total = mark::<Segment, prices::count::Count>(&Segment, &line, &[level(0, 5)], &ONE_LEVEL)?;
+    let total = mark::<Segment, Count>(&Segment, &line, &[level(0, 5)], &ONE_LEVEL)?;
     let form = total.form();
     assert!(rt; form.0 == 5 && form.1 == 0);
     Ok(())
