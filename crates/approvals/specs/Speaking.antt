@@ -1,4 +1,5 @@
 -- Lists of approvals: a loop over them, and the rules of measures. Assumes nothing.
+-- Proofs of laws: they stand here since the code of an `impl` names them. No contract reads them.
 use Rattle.std.specs.Prelude.{◌≡◌, ℕ, ◌+◌, ◌<◌, ◌≤◌, Bool, true, ◌||◌, List, [], ◌∷◌, length, drop, ◌==◌, nat_le, nat_lt, slice_index_or}
 use Rattle.std.proofs.Common.{sym, ap, ◌∙◌, ⊎_elim, arith}
 use Rattle.std.proofs.lemmas.List.{drop_more}

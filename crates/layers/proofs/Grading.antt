@@ -1,40 +1,24 @@
 -- Grades under a layer. Assumes nothing.
-use Rattle.std.proofs.Common.{◌≡◌, ℕ, zero, suc, ◌+◌, ◌-◌, ◌<◌, ◌≤◌, Bool, true, false, cond, ◌&&◌, eqb, ltb, leb, ◌⊎◌, List, length, sym, refl, ap, ◌∙◌, ⊎_elim, arith}
-use Rattle.std.proofs.lemmas.Bool.{and_parts, and_right, cond-false, or_cases, eqb-true, leb-true, ltb-true}
+use Rattle.std.proofs.Common.{◌≡◌, ℕ, ◌+◌, ◌-◌, ◌<◌, ◌≤◌, true, false, ◌&&◌, eqb, ltb, leb, ◌⊎◌, List, length, sym, ap, ◌∙◌, ⊎_elim, arith}
+use Rattle.std.proofs.Math.Bool.{and-true}
+use Rattle.std.proofs.lemmas.Bool.{and_parts, and_right, or_cases, eqb-true, leb-true, ltb-true}
 use Rattle.std.proofs.lemmas.Bool.Decides.{nat_tests, same_from_decides}
-use Rattle.families.specs.Least.{first}
 use Rattle.families.specs.Pin.{clear}
 use Rattle.lines.specs.declared.vertex.Vertex.{Vertex}
 use Rattle.lines.specs.declared.level.Level.{Level}
-use Rattle.lines.specs.Level.{level_of}
 use Rattle.lines.specs.Line.{Lawful, is_link}
-use Rattle.measures.specs.Measure.{Answer, Rules, allowed_by, grade}
+use Rattle.measures.specs.Measure.{Answer, Rules, grade}
+use Rattle.measures.proofs.Grades.{all_refuse, same_level}
 use Rattle.layers.specs.Pins.{over_pins}
 use Rattle.layers.specs.Reach.{over_reach}
 
-first_same : (f g : ℕ → Bool) → ((k : ℕ) → f k ≡ g k) → (n v : ℕ) → first f v n ≡ first g v n
-first_same f g same zero v = refl
-first_same f g same (suc n) v = ap (λ b. cond b v (first f (suc v) n)) (same v) ∙ ap (λ z. cond (g v) v z) (first_same f g same n (suc v))
-
 -- two measures that say the same of a link give it one grade
 grade_same : (a b : Answer) (vs : List Vertex) (ls : List Level) (i j : ℕ) → ((t : ℕ) → a vs i j t ≡ b vs i j t) → grade a vs ls i j ≡ grade b vs ls i j
-grade_same a b vs ls i j same = first_same (λ (k : ℕ). allowed_by a vs ls k i j) (λ (k : ℕ). allowed_by b vs ls k i j) (λ k. same (level_of ls k).tolerance) (length ls) 1
-
-first_none : (test : ℕ → Bool) → ((k : ℕ) → test k ≡ false) → (n v : ℕ) → first test v n ≡ v + n
-first_none test refuses zero v = omega arith
-first_none test refuses (suc n) v =
-    let e : suc v + n ≡ v + suc n = omega arith in
-    cond-false (test v) _ _ (refuses v) ∙ first_none test refuses n (suc v) ∙ e
+grade_same a b vs ls i j same = same_level (a vs i j) (b vs i j) ls same
 
 -- a link that is allowed at no tolerance has the last grade
 grade_none : (says : Answer) (vs : List Vertex) (ls : List Level) (i j : ℕ) → ((t : ℕ) → says vs i j t ≡ false) → length ls + 1 ≡ grade says vs ls i j
-grade_none says vs ls i j refuses =
-    let e : 1 + length ls ≡ length ls + 1 = omega arith in
-    sym (first_none (λ (k : ℕ). allowed_by says vs ls k i j) (λ k. refuses (level_of ls k).tolerance) (length ls) 1 ∙ e)
-
-and_all : (b : Bool) → (b && true) ≡ b
-and_all true = refl
-and_all false = refl
+grade_none says vs ls i j refuses = all_refuse (says vs i j) ls (λ k h. refuses _)
 
 module _ (pins : List ℕ) (below : Answer) (vs : List Vertex) (ls : List Level) (i j : ℕ) where
   -- the link skips a pin
@@ -43,7 +27,7 @@ module _ (pins : List ℕ) (below : Answer) (vs : List Vertex) (ls : List Level)
 
   -- it skips none
   pub grade_clear : (x : ℕ) → x ≡ grade below vs ls i j → true ≡ clear pins i j → x ≡ grade (over_pins pins below) vs ls i j
-  grade_clear x is e = is ∙ grade_same below (over_pins pins below) vs ls i j (λ t. sym (ap (λ b. below vs i j t && b) (sym e) ∙ and_all (below vs i j t)))
+  grade_clear x is e = is ∙ grade_same below (over_pins pins below) vs ls i j (λ t. sym (ap (λ b. below vs i j t && b) (sym e) ∙ and-true (below vs i j t)))
 
 module _ (r largest : ℕ) (below : Answer) (vs : List Vertex) (ls : List Level) (i j : ℕ) where
   -- the link goes too far

@@ -1,4 +1,5 @@
 -- The area measure keeps the rules of measures. Assumes nothing.
+-- Proofs of laws: they stand here since the code of an `impl` names them. No contract reads them.
 use Rattle.std.specs.Prelude.{◌≡◌, ℕ, ◌+◌, ◌-◌, ◌<◌, Bool, true, ◌&&◌, List, length, ℤ, pos, ◌+ℤ◌, ◌-ℤ◌, ◌*ℤ◌, nat_le, nat_lt, slice_index_or, unsigned_abs}
 use Rattle.std.proofs.Common.{sym, ap, ◌∙◌, arith, add-zero}
 use Rattle.std.proofs.lemmas.Int.{ints}

@@ -1,4 +1,5 @@
 -- Tests that stay true when the tolerance rises. Assumes nothing.
+-- Proofs of laws: they stand here since the code of an `impl` names them. No contract reads them.
 use Rattle.std.specs.Prelude.{◌≡◌, ℕ, ◌+◌, ◌*◌, ◌≤◌, Bool, true, false, cond, ℤ, pos, negsuc, ◌+ℤ◌, ◌-ℤ◌, ◌*ℤ◌, ◌==◌, int_le, nat_le, unsigned_abs, refl}
 use Rattle.std.proofs.Common.{arith, mul-le-mul, mul-le-mul_right}
 use Rattle.std.proofs.lemmas.Bool.Decides.{nat_tests}

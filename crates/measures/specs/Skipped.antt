@@ -1,4 +1,5 @@
 -- Measures that ask about each skipped vertex by itself. Assumes nothing.
+-- Proofs of laws: they stand here since the code of an `impl` names them. No contract reads them.
 use Rattle.std.specs.Prelude.{◌≡◌, ℕ, zero, suc, ◌+◌, ◌-◌, ◌<◌, ◌≤◌, Bool, true, false, List, nat_le, nat_lt, slice_index_or, refl}
 use Rattle.std.proofs.Common.{subst, ⊎_elim, arith, eq-or-lt_of_le}
 use Rattle.std.proofs.lemmas.Bool.{and_parts, and_from, and_left, and_right}

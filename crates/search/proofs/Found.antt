@@ -18,7 +18,7 @@ use Rattle.lines.specs.declared.vertex.Vertex.{Vertex}
 use Rattle.measures.specs.Measure.{Answer, Rules, allowed_by}
 use Rattle.tables.specs.Grade.{Graded, first_level, by_grade}
 use Rattle.tables.specs.Row.{TableHolds}
-use Rattle.tables.proofs.Filling.{get_d_any}
+use Rattle.tables.proofs.Filling.{get_or_any}
 use Rattle.tables.proofs.Grades.{tells, reaches_allowed}
 use Rattle.search.specs.Search.{Cells, Least}
 use Rattle.search.proofs.Agreeing.{least_same, stays_same}
@@ -31,8 +31,8 @@ kept_from d before after start e kept =
     same_lists (drop start after) (drop start before) (length-drop start after ∙ ap (λ z. z - start) e ∙ sym (length-drop start before))
     (λ k x h.
     let in_after : start + k < length after = omega (arith, length-drop start after) in
-    get_or-drop start after k x ∙ get_d_any after (start + k) x d in_after ∙ kept (start + k) (omega arith) ∙
-    get_d_any before (start + k) d x (omega arith) ∙ sym (get_or-drop start before k x))
+    get_or-drop start after k x ∙ get_or_any after (start + k) x d in_after ∙ kept (start + k) (omega arith) ∙
+    get_or_any before (start + k) d x (omega arith) ∙ sym (get_or-drop start before k x))
 
 module _ {P : Type 0} (K : prices.Kind P) (price : ℕ → ℕ → ℕ → P) (largest : ℕ) (says : Answer) (rules : Rules largest says) (vs : List Vertex) (line : Lawful vs)
     (ls : List Level) (levels : LawfulLevels largest ls) where

@@ -1,15 +1,12 @@
 -- Under lawful levels, what a measure allows at a level it allows at the levels after it. Assumes nothing.
-use Rattle.std.proofs.Common.{◌≡◌, ℕ, zero, suc, ◌+◌, ◌-◌, ◌<◌, ◌≤◌, Bool, true, false, T, List, length, get_or, sym, refl, subst, add-one, arith}
+use Rattle.std.proofs.Common.{◌≡◌, ℕ, zero, suc, ◌+◌, ◌-◌, ◌<◌, ◌≤◌, true, T, List, length, get_or, sym, subst, add-one, arith}
 use Rattle.families.specs.Theorems.{NextAllowed}
 use Rattle.lines.specs.Line.{Lawful}
 use Rattle.lines.specs.Level.{level, level_of, LawfulLevels}
 use Rattle.lines.specs.declared.level.Level.{Level}
 use Rattle.lines.specs.declared.vertex.Vertex.{Vertex}
 use Rattle.measures.specs.Measure.{Answer, Rules, allowed_by}
-
-yes_is : (x : Bool) → T x → x ≡ true
-yes_is true t = refl
-yes_is false t = absurd t
+use Rattle.tables.proofs.Grades.{yes_is}
 
 module _ (largest : ℕ) (ls : List Level) (lawful : LawfulLevels largest ls) where
   abbrev tolerance : ℕ → ℕ

@@ -10,13 +10,13 @@ use std::test::Fail;
 
 // What a search answered, and the stays that it left.
 #[derive(Drop)]
-pub struct Found<P> {
-    pub total: Result<P, Fault>,
-    pub stays: [u8; 8],
+pub(crate) struct Found<P> {
+    pub(crate) total: Result<P, Fault>,
+    pub(crate) stays: [u8; 8],
 }
 
 // Searches with every byte of grades and stays set to `noise` before, and the prices as they are.
-pub fn search<M: Measure, P: Price>(
+pub(crate) fn search<M: Measure, P: Price>(
     measure: &M,
     line: &Line,
     levels: &[Level],
@@ -30,7 +30,7 @@ pub fn search<M: Measure, P: Price>(
 }
 
 // The search finds a total of this form and these stays, whatever the memory held before; stays past the line keep the noise.
-pub fn finds<M: Measure, P: Price>(
+pub(crate) fn finds<M: Measure, P: Price>(
     rt: &impl Abort,
     measure: &M,
     line: &Line,

@@ -11,10 +11,10 @@ use Rattle.tables.specs.Row.{KeptOutside, taken, head, candidate, RowHolds, Rows
 use Rattle.tables.proofs.Places.{row_after, row_before}
 
 -- a cell in the memory is the same whatever stands for one past it
-pub get_d_any : {X : Type 0} (cells : List X) (y : ℕ) (d e : X) → y < length cells → get_or cells y d ≡ get_or cells y e
-get_d_any [] y d e h = absurd (omega arith)
-get_d_any (x ∷ cells) zero d e h = refl
-get_d_any (x ∷ cells) (suc y) d e h = get_d_any cells y d e (omega arith)
+pub get_or_any : {X : Type 0} (cells : List X) (y : ℕ) (d e : X) → y < length cells → get_or cells y d ≡ get_or cells y e
+get_or_any [] y d e h = absurd (omega arith)
+get_or_any (x ∷ cells) zero d e h = refl
+get_or_any (x ∷ cells) (suc y) d e h = get_or_any cells y d e (omega arith)
 
 -- one cell more is put, read from a cell past those that are put
 module _ {P : Type 0} (K : Kind P) (entry cells : List P) (own from j : ℕ) (hd new : P) where

@@ -10,7 +10,7 @@ use Rattle.tables.specs.Grade.{level_in, first_level, reaches, FirstLevel, Tells
 use Rattle.tables.proofs.First.{first_passes, none_before}
 use Rattle.tables.proofs.Places.{stretch_below}
 
-yes_is : (x : Bool) → T x → x ≡ true
+pub yes_is : (x : Bool) → T x → x ≡ true
 yes_is true t = refl
 yes_is false t = absurd t
 
