@@ -3,7 +3,7 @@
 
 ghost use Rattle.std.specs.Prelude.{◌≡◌, ◌≤◌, IfOk, vec_items};
 ghost use Rattle.std.specs.Option.{option_map};
-ghost use Rattle.hexadecimal.specs.Hex.{digit_value, unhexed};
+ghost use Rattle.hexadecimal.specs.Hex.{digit_value, unhexed, ReadsHex};
 
 use std::alloc::{AllocError, Global};
 
@@ -22,7 +22,8 @@ fn digit(c: u8) -> u8
 
 // The bytes that a text of hexadecimal digits writes, or none if it is no such text.
 pub fn unhex(heap: Global, text: &[u8]) -> Result<Option<Vec<u8>>, AllocError>
-    ensures { IfOk result (λ o. option_map vec_items o ≡ unhexed text.now) }
+    ensures answer { IfOk result (λ o. option_map vec_items o ≡ unhexed text.now) }
+    ensures reads_exactly_what_is_written { IfOk result (λ o. ReadsHex text.now (option_map vec_items o)) }
 {
     if text.len() % 2 != 0 {
         return Ok(None);
