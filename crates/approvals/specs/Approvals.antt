@@ -1,5 +1,6 @@
 -- The measure of approvals: a list of links that are approved from a tolerance on. Assumes nothing.
-use Rattle.std.specs.Prelude.{ℕ, ◌+◌, Bool, false, cond, ◌&&◌, ◌||◌, List, [], ◌∷◌, length, take, Ok, Err, Result, ◌==◌, nat_le, nat_lt}
+use Rattle.std.specs.Prelude.{ℕ, ◌+◌, Bool, cond, ◌&&◌, ◌||◌, List, length, Ok, Err, Result, ◌==◌, nat_le, nat_lt}
+use Rattle.std.specs.List.{list_any}
 use Rattle.lines.specs.declared.fault.Fault.{Fault}
 use Rattle.lines.specs.declared.fault.Cause.TheVariants.{Full}
 use Rattle.lines.specs.declared.fault.Layer.TheVariants.{Content}
@@ -11,7 +12,7 @@ use Rattle.measures.specs.Measure.{Answer}
 
 -- The approvals that are there, in the order in which they were added.
 abbrev pub entries : Approvals → List Approval
-entries a = take a.count a.list
+entries a = a.list.items
 
 -- The approval of the link i → j from the tolerance t on.
 abbrev pub approval : ℕ → ℕ → ℕ → Approval
@@ -23,8 +24,7 @@ speaks i j t a = a.i == i && (a.j == j && nat_le a.t t)
 
 -- Some of the approvals speaks for the link i → j at the tolerance t.
 abbrev pub any_speaks : ℕ → ℕ → ℕ → List Approval → Bool
-any_speaks i j t [] = false
-any_speaks i j t (a ∷ more) = speaks i j t a || any_speaks i j t more
+any_speaks i j t list = list_any (speaks i j t) list
 
 -- The largest tolerance of approvals.
 abbrev pub approvals_largest : ℕ

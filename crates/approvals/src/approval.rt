@@ -1,17 +1,18 @@
-ghost use Rattle.std.specs.Prelude.{◌≡◌, ◌≤◌, length};
+ghost use Rattle.std.specs.Prelude.{◌≤◌, length};
+
+use arrayvec::ArrayVec;
 
 // The link i → j is approved from the tolerance t on.
-#[derive(Clone, Copy, PartialEq, Eq, Debug)]
+#[derive(Clone, Copy, PartialEq, Eq, Debug, Default)]
 pub struct Approval {
     pub i: usize,
     pub j: usize,
     pub t: u32,
 }
 
-// Up to 64 approvals, of which the first `count` are there.
+// Up to 64 approvals.
 #[derive(Drop)]
 pub struct Approvals {
-    pub(crate) list: [Approval; 64],
-    pub(crate) count: usize,
-    ghost sized: { (count ≤ 64) × (length list ≡ 64) },
+    pub(crate) list: ArrayVec<Approval, 64>,
+    ghost sized: { length list.items ≤ 64 },
 }

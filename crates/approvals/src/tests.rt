@@ -6,6 +6,7 @@ use measures::measure::Measure;
 use std::process::Abort;
 use std::test::Fail;
 
+// As in the tests of measures: no helper of tests is shared between crates without a public function.
 fn at(x: i16, y: i16) -> Vertex {
     Vertex { x, y }
 }
@@ -24,15 +25,6 @@ fn says<M: Measure>(
     line.make(vertices)?;
     assert!(rt; m.allows(&line, i, j, t) == answer);
     Ok(())
-}
-
-fn full() -> Fault {
-    Fault {
-        cause: Cause::Full,
-        layer: Layer::Content,
-        place: 0,
-        spot: 0,
-    }
 }
 
 #[test]
@@ -61,7 +53,10 @@ fn at_most_64_approvals(rt: HostRuntime) -> Result<(), Fail> {
         approvals.approve(0, 2, 9)?;
     }
     approvals.approve(1, 3, 4)?;
-    assert_eq!(rt; approvals.approve(0, 3, 0), Err(full()));
+    assert_eq!(rt;
+        approvals.approve(0, 3, 0),
+        Err(Fault::new(Cause::Full, Layer::Content, 0))
+    );
     let vertices = [at(0, 0), at(1, 1), at(2, 2), at(3, 3)];
     says(&rt, true, &approvals, &vertices, 1, 3, 4)?;
     says(&rt, false, &approvals, &vertices, 0, 3, 32768)

@@ -26,151 +26,123 @@ fn check_line(
 #[test]
 fn first_ten(rt: HostRuntime) -> Result<(), Fail> {
     let heap = rt.alloc();
-    check_line(
-        &rt,
-        heap,
-        Cause::RunsOut,
-        Layer::Pack,
-        "refused 1 layer 1 place 18446744073709551615 spot 40",
-    )?;
-    check_line(
-        &rt,
-        heap,
-        Cause::WrongKind,
-        Layer::Pack,
-        "refused 2 layer 1 place 18446744073709551615 spot 40",
-    )?;
-    check_line(
-        &rt,
-        heap,
-        Cause::WrongLength,
-        Layer::Pack,
-        "refused 3 layer 1 place 18446744073709551615 spot 40",
-    )?;
-    check_line(
-        &rt,
-        heap,
-        Cause::LeftOver,
-        Layer::Pack,
-        "refused 4 layer 1 place 18446744073709551615 spot 40",
-    )?;
-    check_line(
-        &rt,
-        heap,
-        Cause::Coordinate,
-        Layer::Content,
-        "refused 5 layer 2 place 18446744073709551615 spot 40",
-    )?;
-    check_line(
-        &rt,
-        heap,
-        Cause::Tolerance,
-        Layer::Content,
-        "refused 6 layer 2 place 18446744073709551615 spot 40",
-    )?;
-    check_line(
-        &rt,
-        heap,
-        Cause::Weight,
-        Layer::Content,
-        "refused 7 layer 2 place 18446744073709551615 spot 40",
-    )?;
-    check_line(
-        &rt,
-        heap,
-        Cause::Unknown,
-        Layer::Content,
-        "refused 8 layer 2 place 18446744073709551615 spot 40",
-    )?;
-    check_line(
-        &rt,
-        heap,
-        Cause::Order,
-        Layer::Marker,
-        "refused 9 layer 3 place 18446744073709551615 spot 40",
-    )?;
-    check_line(
-        &rt,
-        heap,
-        Cause::Nesting,
-        Layer::Marker,
-        "refused 10 layer 3 place 18446744073709551615 spot 40",
-    )
+    let lines = [
+        (
+            Cause::RunsOut,
+            Layer::Pack,
+            "refused 1 layer 1 place 18446744073709551615 spot 40",
+        ),
+        (
+            Cause::WrongKind,
+            Layer::Pack,
+            "refused 2 layer 1 place 18446744073709551615 spot 40",
+        ),
+        (
+            Cause::WrongLength,
+            Layer::Pack,
+            "refused 3 layer 1 place 18446744073709551615 spot 40",
+        ),
+        (
+            Cause::LeftOver,
+            Layer::Pack,
+            "refused 4 layer 1 place 18446744073709551615 spot 40",
+        ),
+        (
+            Cause::Coordinate,
+            Layer::Content,
+            "refused 5 layer 2 place 18446744073709551615 spot 40",
+        ),
+        (
+            Cause::Tolerance,
+            Layer::Content,
+            "refused 6 layer 2 place 18446744073709551615 spot 40",
+        ),
+        (
+            Cause::Weight,
+            Layer::Content,
+            "refused 7 layer 2 place 18446744073709551615 spot 40",
+        ),
+        (
+            Cause::Unknown,
+            Layer::Content,
+            "refused 8 layer 2 place 18446744073709551615 spot 40",
+        ),
+        (
+            Cause::Order,
+            Layer::Marker,
+            "refused 9 layer 3 place 18446744073709551615 spot 40",
+        ),
+        (
+            Cause::Nesting,
+            Layer::Marker,
+            "refused 10 layer 3 place 18446744073709551615 spot 40",
+        ),
+    ];
+    for (cause, layer, text) in lines {
+        check_line(&rt, heap, cause, layer, text)?;
+    }
+    Ok(())
 }
 
 #[test]
 fn last_ten(rt: HostRuntime) -> Result<(), Fail> {
     let heap = rt.alloc();
-    check_line(
-        &rt,
-        heap,
-        Cause::Link,
-        Layer::Marker,
-        "refused 11 layer 3 place 18446744073709551615 spot 40",
-    )?;
-    check_line(
-        &rt,
-        heap,
-        Cause::Total,
-        Layer::Marker,
-        "refused 12 layer 3 place 18446744073709551615 spot 40",
-    )?;
-    check_line(
-        &rt,
-        heap,
-        Cause::Vertex,
-        Layer::Sheet,
-        "refused 13 layer 4 place 18446744073709551615 spot 40",
-    )?;
-    check_line(
-        &rt,
-        heap,
-        Cause::Pinned,
-        Layer::Sheet,
-        "refused 14 layer 4 place 18446744073709551615 spot 40",
-    )?;
-    check_line(
-        &rt,
-        heap,
-        Cause::NotPinned,
-        Layer::Sheet,
-        "refused 15 layer 4 place 18446744073709551615 spot 40",
-    )?;
-    check_line(
-        &rt,
-        heap,
-        Cause::Full,
-        Layer::Sheet,
-        "refused 16 layer 4 place 18446744073709551615 spot 40",
-    )?;
-    check_line(
-        &rt,
-        heap,
-        Cause::OtherCount,
-        Layer::Sheet,
-        "refused 17 layer 4 place 18446744073709551615 spot 40",
-    )?;
-    check_line(
-        &rt,
-        heap,
-        Cause::Memory,
-        Layer::Sheet,
-        "refused 18 layer 4 place 18446744073709551615 spot 40",
-    )?;
-    check_line(
-        &rt,
-        heap,
-        Cause::Level,
-        Layer::Sheet,
-        "refused 19 layer 4 place 18446744073709551615 spot 40",
-    )?;
-    check_line(
-        &rt,
-        heap,
-        Cause::Limits,
-        Layer::Sheet,
-        "refused 20 layer 4 place 18446744073709551615 spot 40",
-    )
+    let lines = [
+        (
+            Cause::Link,
+            Layer::Marker,
+            "refused 11 layer 3 place 18446744073709551615 spot 40",
+        ),
+        (
+            Cause::Total,
+            Layer::Marker,
+            "refused 12 layer 3 place 18446744073709551615 spot 40",
+        ),
+        (
+            Cause::Vertex,
+            Layer::Sheet,
+            "refused 13 layer 4 place 18446744073709551615 spot 40",
+        ),
+        (
+            Cause::Pinned,
+            Layer::Sheet,
+            "refused 14 layer 4 place 18446744073709551615 spot 40",
+        ),
+        (
+            Cause::NotPinned,
+            Layer::Sheet,
+            "refused 15 layer 4 place 18446744073709551615 spot 40",
+        ),
+        (
+            Cause::Full,
+            Layer::Sheet,
+            "refused 16 layer 4 place 18446744073709551615 spot 40",
+        ),
+        (
+            Cause::OtherCount,
+            Layer::Sheet,
+            "refused 17 layer 4 place 18446744073709551615 spot 40",
+        ),
+        (
+            Cause::Memory,
+            Layer::Sheet,
+            "refused 18 layer 4 place 18446744073709551615 spot 40",
+        ),
+        (
+            Cause::Level,
+            Layer::Sheet,
+            "refused 19 layer 4 place 18446744073709551615 spot 40",
+        ),
+        (
+            Cause::Limits,
+            Layer::Sheet,
+            "refused 20 layer 4 place 18446744073709551615 spot 40",
+        ),
+    ];
+    for (cause, layer, text) in lines {
+        check_line(&rt, heap, cause, layer, text)?;
+    }
+    Ok(())
 }
 
 #[test]

@@ -47,7 +47,7 @@ fn draw_line<M: Measure, P: Price>(
     line: &Line,
     levels: &[Level],
 ) -> Result<Drawing, DrawError>
-    requires { Drawable M.Measure.largest levels.now }
+    requires { Drawable M.Measure.LARGEST levels.now }
     ensures { Made (Shows P.Price.kind P.Price.link (M.Measure.says measure.now) line.now.vertices.now levels.now) result }
 {
     let mut grades = filled(heap, GRADES, 0u8)?;
@@ -69,7 +69,7 @@ fn draw_line<M: Measure, P: Price>(
     })
 }
 
-// Draws a line under a measure and the price with its number.
+// Draws a line under a measure and the price with its number. A price is a type, so its number is matched; no `dyn` can stand for it.
 fn draw_priced<M: Measure>(
     heap: Global,
     measure: &M,
@@ -77,7 +77,7 @@ fn draw_priced<M: Measure>(
     line: &Line,
     levels: &[Level],
 ) -> Result<Drawing, DrawError>
-    requires { Drawable M.Measure.largest levels.now }
+    requires { Drawable M.Measure.LARGEST levels.now }
     ensures { Made (ShowsPriced price (M.Measure.says measure.now) line.now.vertices.now levels.now) result }
 {
     match price {
@@ -86,7 +86,7 @@ fn draw_priced<M: Measure>(
     }
 }
 
-// Draws a line under the measure and the price with their numbers.
+// Draws a line under the measure and the price with their numbers. A measure has a constant, so no `dyn` can stand for it either.
 fn draw_numbered(
     heap: Global,
     measure: MeasureKind,

@@ -23,8 +23,7 @@ fn add_vertices(heap: Global, text: &mut String, chain: &[usize]) -> Result<(), 
 pub fn total_line(heap: Global, form: (u32, u64)) -> Result<String, AllocError>
     ensures { IfOk result (λ s. string_bytes s ≡ total_text form) }
 {
-    let first = form.0;
-    let second = form.1;
+    let (first, second) = form;
     format!(in heap; "total {first} {second}")
 }
 
@@ -51,15 +50,16 @@ fn level_lines(heap: Global, m: usize, stays: &[u8]) -> Result<String, AllocErro
     ensures { IfOk result (λ s. string_bytes s ≡ levels_text m (read_off (λ v. slice_index stays.now v) (length stays.now))) }
 {
     let mut text = String::new(heap);
-    for k in 0..m {
-        let chain = read_chain(heap, stays, k + 1)?;
-        let line = level_line(heap, k + 1, chain.as_slice())?;
+    // k is a level, and indexes no slice.
+    for k in 1..=m {
+        let chain = read_chain(heap, stays, k)?;
+        let line = level_line(heap, k, chain.as_slice())?;
         add_line(&mut text, line.as_str())?;
     }
     Ok(text)
 }
 
-// The lines of a drawing.
+// The lines of a drawing. No `Display` writes them: a chain is read into memory, and a `Display` is given no heap.
 pub fn drawing_text(heap: Global, drawing: &Drawing) -> Result<String, AllocError>
     ensures { IfOk result (λ s. string_bytes s ≡ drawing_text drawing.now.levels drawing.now.stays.items drawing.now.form) }
 {

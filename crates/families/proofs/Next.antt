@@ -1,7 +1,7 @@
 -- The first least family: its next vertex, and the equations of its walks. Assumes nothing.
-use Rattle.std.proofs.Common.{◌≡◌, ℕ, zero, suc, ◌+◌, ◌-◌, ◌<◌, ◌≤◌, Bool, true, false, cond, ◌&&◌, T, eqb, List, [], ◌∷◌, ◌++◌, sym, refl, ap, ◌∙◌, subst, arith, eqb→eq}
+use Rattle.std.proofs.Common.{◌≡◌, ℕ, zero, suc, ◌+◌, ◌-◌, ◌<◌, ◌≤◌, Bool, true, false, cond, ◌&&◌, T, eqb, List, [], ◌∷◌, ◌++◌, sym, refl, ap, ◌∙◌, subst, arith}
+use Rattle.std.proofs.lemmas.Bool.{eq-eqb, ne_eqb}
 use native.Mathlib.Decide.{dec_lt}
-use lib.Dec.{eqb_refl}
 use Rattle.families.specs.Price.{Kind, Rules, Same}
 use Rattle.families.specs.Least.{first, L, via, next, fill, walk}
 use Rattle.families.proofs.Algebra.{Leq, Eqv, is}
@@ -31,20 +31,6 @@ first_pass test v (suc more) w a b t = go (λ h. first_pass test (suc v) more w 
         later : Dec (v < w) → v < w
         later (yes h) = h
         later (no h) = let q : w ≡ v = omega arith in absurd (subst T e (subst (λ x. T (test x)) q t))
-
-eqb_yes : (n : ℕ) → eqb n n ≡ true
-eqb_yes n = go (eqb n n) (eqb_refl n)
-  where
-    go : (b : Bool) → T b → b ≡ true
-    go true t = refl
-    go false t = absurd t
-
-eqb_no : (m n : ℕ) → m < n → eqb m n ≡ false
-eqb_no m n h = go (eqb m n) (λ t. eqb→eq m n t)
-  where
-    go : (b : Bool) → (T b → m ≡ n) → b ≡ false
-    go true f = let e : m ≡ n = f tt in absurd (omega arith)
-    go false f = refl
 
 module _ {P : Type 0} (K : Kind P) (price : ℕ → ℕ → ℕ → P) (allowed : ℕ → ℕ → ℕ → Bool) where
   pub next_range : (k i j : ℕ) → i < j → (i < next K price allowed k i j) × (next K price allowed k i j ≤ j)
@@ -81,7 +67,7 @@ module _ {P : Type 0} (K : Kind P) (price : ℕ → ℕ → ℕ → P) (allowed 
       walk_step k (suc k) i j h ∙
       ap (λ b. cond b (next K price allowed k i j ∷ [])
       (walk K price allowed k (suc k) i (next K price allowed k i j)) ++ walk K price allowed (suc k) (suc k)
-      (next K price allowed k i j) j) (eqb_yes (suc k))
+      (next K price allowed k i j) j) (eq-eqb (suc k) (suc k) refl)
 
   pub walk_low : (k l i j : ℕ) → l ≤ k → i < j →
       walk K price allowed (suc k) l i j ≡ walk K price allowed k l i (next K price allowed k i j) ++ walk K price allowed (suc k) l
@@ -89,7 +75,7 @@ module _ {P : Type 0} (K : Kind P) (price : ℕ → ℕ → ℕ → P) (allowed 
   walk_low k l i j a h =
       walk_step k l i j h ∙
       ap (λ b. cond b (next K price allowed k i j ∷ []) (walk K price allowed k l i (next K price allowed k i j)) ++ walk K price allowed
-      (suc k) l (next K price allowed k i j) j) (eqb_no l (suc k) (omega arith))
+      (suc k) l (next K price allowed k i j) j) (ne_eqb l (suc k) (λ e. omega (arith, e)))
 
 module _ {P : Type 0} {K : Kind P} (rules : Rules K) (price : ℕ → ℕ → ℕ → P) (allowed : ℕ → ℕ → ℕ → Bool) where
   passes : (k i j v : ℕ) → T (allowed (suc k) i v) → Leq K (via K price allowed k i j v) (L K price allowed (suc k) i j) →

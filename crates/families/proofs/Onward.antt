@@ -1,28 +1,8 @@
 -- Tests of order, and that `onward` needs no more steps than there are vertices to the end. Assumes nothing.
-use Rattle.std.proofs.Common.{◌≡◌, ℕ, zero, suc, ◌-◌, ◌<◌, ◌≤◌, Bool, true, false, cond, T, ltb, leb, sym, refl, ◌∙◌, subst, arith, le→leb, ltb→lt, leb→le}
+use Rattle.std.proofs.Common.{◌≡◌, ℕ, zero, suc, ◌-◌, ◌<◌, ◌≤◌, Bool, true, false, cond, T, ltb, sym, refl, ◌∙◌, subst, arith, ltb→lt}
+use Rattle.std.proofs.lemmas.Bool.{le-ltb, lt-ltb}
 use native.Mathlib.Decide.{dec_lt}
 use Rattle.families.specs.Least.{onward}
-
--- a test of order that passes, and one that fails
-pub leb_yes : (m n : ℕ) → m ≤ n → leb m n ≡ true
-leb_yes m n h = go (leb m n) (le→leb m n h)
-  where
-    go : (b : Bool) → T b → b ≡ true
-    go true t = refl
-    go false t = absurd t
-
-pub leb_no : (m n : ℕ) → n < m → leb m n ≡ false
-leb_no m n h = go (leb m n) (λ t. leb→le m n t)
-  where
-    go : (b : Bool) → (T b → m ≤ n) → b ≡ false
-    go true f = let k : m ≤ n = f tt in absurd (omega arith)
-    go false f = refl
-
-pub ltb_yes : (m n : ℕ) → m < n → ltb m n ≡ true
-ltb_yes m n h = leb_yes (suc m) n h
-
-pub ltb_no : (m n : ℕ) → n ≤ m → ltb m n ≡ false
-ltb_no m n h = leb_no (suc m) n (omega arith)
 
 -- from the end backwards: what holds at j, and at i once it holds further on, holds everywhere before j
 pub towards : (j : ℕ) (Q : ℕ → Type 0) → Q j → ((i : ℕ) → i < j → ((v : ℕ) → i < v → v ≤ j → Q v) → Q i) → (i : ℕ) → i ≤ j → Q i
@@ -40,7 +20,7 @@ module _ {X : Type 0} (j : ℕ) (end : X) (step : ℕ → (ℕ → X) → X)
     (looks : (i : ℕ) (f g : ℕ → X) → i < j → ((v : ℕ) → i < v → v ≤ j → f v ≡ g v) → step i f ≡ step i g) where
   pub onward_end : (d i : ℕ) → j ≤ i → onward j end step d i ≡ end
   onward_end zero i h = refl
-  onward_end (suc d) i h = rw (ltb_no i j h)
+  onward_end (suc d) i h = rw (le-ltb i j h)
 
   enough : (d e i : ℕ) → i ≤ j → j - i ≤ d → j - i ≤ e → onward j end step d i ≡ onward j end step e i
   enough zero e i h p q = sym (onward_end e i (omega arith))
@@ -53,7 +33,7 @@ module _ {X : Type 0} (j : ℕ) (end : X) (step : ℕ → (ℕ → X) → X)
       more ih false f = refl
 
   pub onward_step : (i : ℕ) → i < j → onward j end step (j - i) i ≡ step i (λ v. onward j end step (j - v) v)
-  onward_step i h = enough (j - i) (suc (j - suc i)) i (omega arith) (omega arith) (omega arith) ∙ one (ltb_yes i j h)
+  onward_step i h = enough (j - i) (suc (j - suc i)) i (omega arith) (omega arith) (omega arith) ∙ one (lt-ltb i j h)
     where
       one : ltb i j ≡ true → cond (ltb i j) (step i (onward j end step (j - suc i))) end ≡ step i (λ v. onward j end step (j - v) v)
       one e =

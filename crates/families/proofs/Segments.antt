@@ -1,11 +1,11 @@
 -- What the part of a chain between two of its vertices costs. Assumes nothing.
 use Rattle.std.proofs.Common.{◌≡◌, ℕ, ◌-◌, ◌<◌, ◌≤◌, Bool, true, false, ◌&&◌, T, leb, ◌⊎◌, List, [], ◌∷◌, sym, refl, subst, ap₂, inl, inr, arith, leb→le}
+use Rattle.std.proofs.lemmas.Bool.{le-leb, lt-leb}
 use Rattle.std.specs.List.{AllByRecursion}
 use Rattle.families.specs.Price.{Kind, Rules}
 use Rattle.families.specs.Chain.{Rises, Chain, Has, links_from, links}
 use Rattle.families.specs.Family.{cost}
 use Rattle.families.proofs.Algebra.{Eqv, is, rfl, sy, tr, join, swap, unit_l, unit_r}
-use Rattle.families.proofs.Onward.{leb_yes, leb_no}
 use Rattle.families.proofs.Rising.{rises_up, rises_above, rises_least}
 
 module _ {P : Type 0} (K : Kind P) where
@@ -25,10 +25,10 @@ module _ {P : Type 0} (K : Kind P) (price : ℕ → ℕ → ℕ → P) where
 
 module _ {P : Type 0} (K : Kind P) where
   pick_in : (p : P) (i j a b : ℕ) → i ≤ a → b ≤ j → pick K (leb i a && leb b j) p ≡ p
-  pick_in p i j a b h g = rw (leb_yes i a h, leb_yes b j g)
+  pick_in p i j a b h g = rw (le-leb i a h, le-leb b j g)
 
   pick_out : (p : P) (i j a b : ℕ) → a < i → pick K (leb i a && leb b j) p ≡ K.neutral
-  pick_out p i j a b h = rw (leb_no i a h)
+  pick_out p i j a b h = rw (lt-leb i a h)
 
 module _ {P : Type 0} (K : Kind P) (price : ℕ → ℕ → ℕ → P) where
   all_from : (k i j a e : ℕ) (bs : List ℕ) → Rises a e bs → i ≤ a → e ≤ j → seg_from K price k i j a bs ≡ cost K price k (links_from a bs)
@@ -53,7 +53,7 @@ module _ {P : Type 0} {K : Kind P} (rules : Rules K) (price : ℕ → ℕ → �
       on (inr x) = inr (omega arith)
 
       out : (j ≤ i) ⊎ (j ≤ a) → (t : Bool) → leb i a ≡ t → Eqv K (pick K (t && leb b j) (price k a b)) K.neutral
-      out h true q = let l = leb→le i a (subst T (sym q) tt) in rw (leb_no b j (low h l)) (rfl rules K.neutral)
+      out h true q = let l = leb→le i a (subst T (sym q) tt) in rw (lt-leb b j (low h l)) (rfl rules K.neutral)
         where
           low : (j ≤ i) ⊎ (j ≤ a) → i ≤ a → j < b
           low (inl x) l = omega arith
@@ -63,9 +63,9 @@ module _ {P : Type 0} {K : Kind P} (rules : Rules K) (price : ℕ → ℕ → �
   pick_split : (p : P) (i v j a b : ℕ) → a < b → i ≤ v → v ≤ j → (v ≤ a) ⊎ (b ≤ v) →
       Eqv K (pick K (leb i a && leb b j) p) (K.join (pick K (leb i a && leb b v) p) (pick K (leb v a && leb b j) p))
   pick_split p i v j a b l h g (inl x) =
-      rw (leb_yes i a (omega arith), leb_yes v a x, leb_no b v (omega arith)) (sy rules (unit_l rules (pick K (leb b j) p)))
+      rw (le-leb i a (omega arith), le-leb v a x, lt-leb b v (omega arith)) (sy rules (unit_l rules (pick K (leb b j) p)))
   pick_split p i v j a b l h g (inr x) =
-      rw (leb_yes b v x, leb_yes b j (omega arith), leb_no v a (omega arith)) (sy rules (unit_r rules (pick K (leb i a && true) p)))
+      rw (le-leb b v x, le-leb b j (omega arith), lt-leb v a (omega arith)) (sy rules (unit_r rules (pick K (leb i a && true) p)))
 
   split_from : (k i v j a e : ℕ) (bs : List ℕ) → Rises a e bs → i ≤ v → v ≤ j → (v ≤ a) ⊎ Has bs v →
       Eqv K (seg_from K price k i j a bs) (K.join (seg_from K price k i v a bs) (seg_from K price k v j a bs))

@@ -1,14 +1,13 @@
 -- The stays of a family say all of it, and those of the first least family are least. Assumes nothing.
 use Rattle.std.proofs.Common.{◌≡◌, ℕ, zero, suc, ◌+◌, ◌-◌, ◌<◌, ◌≤◌, Bool, true, false, cond, leb, List, [], ◌∷◌, sym, refl, ap, ◌∙◌, subst, ap₂, inl, inr, arith}
 use native.Mathlib.Decide.{dec_lt, dec_le}
-use Rattle.std.proofs.lemmas.Bool.{false≢true}
+use Rattle.std.proofs.lemmas.Bool.{false≢true, le-leb, lt-leb}
 use Rattle.families.specs.Price.{Kind, Rules, Same}
 use Rattle.families.specs.Chain.{Rises, Chain, Has, has, links}
 use Rattle.families.specs.Family.{Family, cost, total}
 use Rattle.families.specs.Least.{L, first_least}
 use Rattle.families.specs.Theorems.{NextAllowed, StaysSayAll}
 use Rattle.families.specs.Stay.{stay, staying, read_off}
-use Rattle.families.proofs.Onward.{leb_yes, leb_no}
 use Rattle.families.proofs.Rising.{rises_least, rises_up, has_means}
 use Rattle.families.proofs.NothingSmaller.{through}
 use Rattle.families.proofs.FirstLeast.{stands}
@@ -41,10 +40,10 @@ staying_is stays k (suc more) v a e bs r h s f g =
         ih b bs r.1 (omega (arith, r.0)) (λ w x y z. other w a (b ∷ bs) (omega arith) (f w (omega arith) y z)) (λ w o. g w (inr o))
 
     go : Rest → Dec (v < a) → cond (leb k (stays v)) (v ∷ staying stays k (suc v) more) (staying stays k (suc v) more) ≡ a ∷ bs
-    go ih (yes l) = rw (leb_no k (stays v) (out l (dec_le k (stays v)))) (ih a bs r l (λ w x y z. f w (omega arith) y z) g)
+    go ih (yes l) = rw (lt-leb k (stays v) (out l (dec_le k (stays v)))) (ih a bs r l (λ w x y z. f w (omega arith) y z) g)
     go ih (no l) =
         let q : v ≡ a = omega arith in
-        rw (leb_yes k (stays v) (g v (inl q))) (ap₂ {C = List ℕ} (λ x xs. x ∷ xs) q (tail q ih bs r f g))
+        rw (le-leb k (stays v) (g v (inl q))) (ap₂ {C = List ℕ} (λ x xs. x ∷ xs) q (tail q ih bs r f g))
 
 module _ (allowed : ℕ → ℕ → ℕ → Bool) (m n : ℕ) (chain : ℕ → List ℕ) (fam : Family allowed m n chain) where
   -- a vertex that stays to level k is on its chain

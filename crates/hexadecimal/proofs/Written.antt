@@ -1,103 +1,82 @@
 -- What a text is read as is exactly what it writes. Assumes nothing.
-use Rattle.std.proofs.Common.{◌≡◌, ℕ, zero, suc, ◌+◌, ◌*◌, ◌/◌, ◌%◌, ◌<◌, Bool, true, false, cond, ◌&&◌, ltb, ◌↔◌, ◌⊎◌, List, [], ◌∷◌, length, Some, None, Option, sym, refl, ap, ◌∙◌, subst, inl, inr, arith}
+use Rattle.std.proofs.Common.{◌≡◌, ℕ, ◌+◌, ◌*◌, ◌/◌, ◌%◌, ◌<◌, ◌↔◌, List, [], ◌∷◌, Some, None, Option, sym, refl, ap, ◌∙◌, subst, arith}
 use Rattle.std.specs.Prelude.{map}
 use Rattle.std.specs.List.{AllByRecursion}
-use Rattle.std.specs.Option.{option_map}
-use Rattle.std.proofs.lemmas.List.{length-map}
-use Rattle.std.proofs.lemmas.Bool.{cond-true, cond-false, and_parts, and_from, lt-ltb, ltb-true, eq-eqb, ne_eqb, cases_eq}
 use Rattle.std.proofs.lemmas.Bool.Decides.{nat_tests}
-use Rattle.hexadecimal.specs.Hex.{digit_value, bytes_of, unhexed, digit_of, hex_text, small_letter, ReadsHex}
+use Rattle.hexadecimal.specs.Hex.{digit_value, byte_of, byte_value, in_front, unhexed, digit_of, hex_text, small_letter, ReadsHex}
 
--- a digit, made small, is the digit of its value
-valued : (c : ℕ) → digit_value c < 16 → small_letter c ≡ digit_of (digit_value c)
-valued c h = grind (arith, nat_tests)
+-- the value of a digit; a digit, made small, is the digit of its value
+below : (c n : ℕ) → digit_value c ≡ Some n → n < 16
+below c n e = grind (arith, nat_tests)
+
+valued : (c n : ℕ) → digit_value c ≡ Some n → small_letter c ≡ digit_of n
+valued c n e = grind (arith, nat_tests)
 
 -- and what is the digit of n, made small, has the value n
-value_of : (c n : ℕ) → n < 16 → small_letter c ≡ digit_of n → digit_value c ≡ n
+value_of : (c n : ℕ) → n < 16 → small_letter c ≡ digit_of n → digit_value c ≡ Some n
 value_of c n h e = grind (arith, nat_tests)
 
--- a byte in front of what was read
-in_front : (b : Bool) (x : ℕ) (r : Option (List ℕ)) (bs : List ℕ) →
-    cond b (option_map (λ ys. x ∷ ys) r) None ≡ Some bs → (ys : List ℕ) × (b ≡ true) × (r ≡ Some ys) × (bs ≡ x ∷ ys)
-in_front true x (Some ys) bs e = (ys, refl, refl, cc)
-in_front true x None bs e = cc
-in_front false x r bs e = cc
+-- what a byte and bytes are made of
+halves : (v w : Option ℕ) (b : ℕ) → byte_of v w ≡ Some b → (m : ℕ) × (n : ℕ) × (v ≡ Some m) × (w ≡ Some n) × (m * 16 + n ≡ b)
+halves None w b e = cc
+halves (Some m) None b e = cc
+halves (Some m) (Some n) b e = (m, n, refl, refl, cc)
 
--- two digits to a byte
-length_hex : (bs : List ℕ) → length (hex_text bs) ≡ 2 * length bs
-length_hex [] = refl
-length_hex (b ∷ bs) = omega (arith, length_hex bs)
+parts : (o : Option ℕ) (r : Option (List ℕ)) (bs : List ℕ) → in_front o r ≡ Some bs → (b : ℕ) × (rest : List ℕ) × (o ≡ Some b) × (r ≡ Some rest) × (bs ≡ b ∷ rest)
+parts None r bs e = cc
+parts (Some b) None bs e = cc
+parts (Some b) (Some rest) bs e = (b, rest, refl, refl, cc)
 
--- equal texts behind two equal digits
-alike : {x y v w : ℕ} {xs ys : List ℕ} → x ≡ v → y ≡ w → xs ≡ ys → ◌≡◌ {A = List ℕ} (x ∷ y ∷ xs) (v ∷ w ∷ ys)
-alike p q r = cc
+-- two codes write a byte exactly when, made small, they are its two digits
+byte_read : (c d b : ℕ) → byte_value c d ≡ Some b → (b < 256) × (small_letter c ≡ digit_of (b / 16)) × (small_letter d ≡ digit_of (b % 16))
+byte_read c d b e =
+    let h = halves (digit_value c) (digit_value d) b e in
+    let high = below c h.0 h.2 in
+    let low = below d h.1 h.3 in
+    let p : h.0 ≡ b / 16 = omega (arith, h.4) in
+    let q : h.1 ≡ b % 16 = omega (arith, h.4) in
+    (omega (arith, h.4), valued c h.0 h.2 ∙ ap digit_of p, valued d h.1 h.3 ∙ ap digit_of q)
+
+byte_written : (c d b : ℕ) → b < 256 → small_letter c ≡ digit_of (b / 16) → small_letter d ≡ digit_of (b % 16) → byte_value c d ≡ Some b
+byte_written c d b h p q =
+    let high = value_of c (b / 16) (omega arith) p in
+    let low = value_of d (b % 16) (omega arith) q in
+    let whole : b / 16 * 16 + b % 16 ≡ b = omega arith in
+    rw (high, low) (ap Some whole)
 
 -- the text writes the bytes
 abbrev Writes : List ℕ → List ℕ → Type 0
 Writes text bs = AllByRecursion (λ b. b < 256) bs × (map small_letter text ≡ hex_text bs)
 
--- one byte more: two codes c and d in front of a text that is read as what it writes
-module _ (k c d : ℕ) (text : List ℕ) (rest : (bs : List ℕ) → (bytes_of k text ≡ Some bs) ↔ Writes text bs) where
-  abbrev tested : Bool
-  tested = ltb (digit_value c) 16 && ltb (digit_value d) 16
+-- equal texts behind two equal digits
+alike : {x y v w : ℕ} {xs ys : List ℕ} → x ≡ v → y ≡ w → xs ≡ ys → ◌≡◌ {A = List ℕ} (x ∷ y ∷ xs) (v ∷ w ∷ ys)
+alike p q r = cc
 
-  abbrev byte : ℕ
-  byte = digit_value c * 16 + digit_value d
+-- one byte more: two codes in front of a text that is read as what it writes
+read : (c d : ℕ) (text : List ℕ) → ((bs : List ℕ) → unhexed text ≡ Some bs → Writes text bs) → (bs : List ℕ) → unhexed (c ∷ d ∷ text) ≡ Some bs → Writes (c ∷ d ∷ text) bs
+read c d text more bs e =
+    let f = parts (byte_value c d) (unhexed text) bs e in
+    let b = byte_read c d f.0 f.2 in
+    let w = more f.1 f.3 in
+    let whole : Writes (c ∷ d ∷ text) (f.0 ∷ f.1) = ((b.0, w.0), alike b.1 b.2 w.1) in
+    subst (Writes (c ∷ d ∷ text)) (sym f.4) whole
 
-  read : (bs : List ℕ) → bytes_of (suc k) (c ∷ d ∷ text) ≡ Some bs → Writes (c ∷ d ∷ text) bs
-  read bs e =
-      let f = in_front tested byte (bytes_of k text) bs e in
-      let ys = f.0 in
-      let t = and_parts (ltb (digit_value c) 16) (ltb (digit_value d) 16) f.1 in
-      let high : digit_value c < 16 = ltb-true (digit_value c) 16 t.0 in
-      let low : digit_value d < 16 = ltb-true (digit_value d) 16 t.1 in
-      let w = (rest ys).0 f.2 in
-      let p : byte / 16 ≡ digit_value c = omega arith in
-      let q : byte % 16 ≡ digit_value d = omega arith in
-      let ec : small_letter c ≡ digit_of (byte / 16) = valued c high ∙ ap digit_of (sym p) in
-      let ed : small_letter d ≡ digit_of (byte % 16) = valued d low ∙ ap digit_of (sym q) in
-      let whole : Writes (c ∷ d ∷ text) (byte ∷ ys) = ((omega arith, w.0), alike ec ed w.1) in
-      subst (Writes (c ∷ d ∷ text)) (sym f.3) whole
+written : (c d : ℕ) (text : List ℕ) → ((bs : List ℕ) → Writes text bs → unhexed text ≡ Some bs) → (bs : List ℕ) → Writes (c ∷ d ∷ text) bs → unhexed (c ∷ d ∷ text) ≡ Some bs
+written c d text more [] w = let e = w.1 in cc
+written c d text more (b ∷ bs) w =
+    let e = w.1 in
+    let byte = byte_written c d b w.0.0 (cc) (cc) in
+    let rest = more bs (w.0.1, (cc)) in
+    rw (byte, rest) refl
 
-  written : (bs : List ℕ) → Writes (c ∷ d ∷ text) bs → bytes_of (suc k) (c ∷ d ∷ text) ≡ Some bs
-  written [] w = let e = w.1 in cc
-  written (b ∷ bs) w =
-      let small : b < 256 = w.0.0 in
-      let e = w.1 in
-      let high : digit_value c ≡ b / 16 = value_of c (b / 16) (omega arith) cc in
-      let low : digit_value d ≡ b % 16 = value_of d (b % 16) (omega arith) cc in
-      let made : byte ≡ b = omega arith in
-      let t : tested ≡ true = and_from _ _ (lt-ltb (digit_value c) 16 (omega arith)) (lt-ltb (digit_value d) 16 (omega arith)) in
-      let tail : map small_letter text ≡ hex_text bs = cc in
-      let r : bytes_of k text ≡ Some bs = (rest bs).1 (w.0.1, tail) in
-      cond-true tested _ None t ∙ ap (option_map (λ ys. byte ∷ ys)) r ∙ ap (λ x. Some (x ∷ bs)) made
-
--- the first k bytes of a text of 2 * k codes
-pairs : (k : ℕ) (text : List ℕ) → length text ≡ 2 * k → (bs : List ℕ) → (bytes_of k text ≡ Some bs) ↔ Writes text bs
-pairs zero [] h [] = (λ e. (tt, refl), λ w. refl)
-pairs zero [] h (b ∷ bs) = (λ e. cc, λ w. cc w.1)
-pairs zero (c ∷ text) h bs = absurd (omega arith)
-pairs (suc k) [] h bs = absurd (omega arith)
-pairs (suc k) (c ∷ []) h bs = absurd (omega arith)
-pairs (suc k) (c ∷ d ∷ text) h bs =
-    let rest = pairs k text (omega arith) in (read k c d text rest bs, written k c d text rest bs)
-
--- a text that writes bytes has an even length
-even : (text bs : List ℕ) → map small_letter text ≡ hex_text bs → length text % 2 ≡ 0
-even text bs e = omega (arith, length-map text small_letter, ap length e, length_hex bs)
-
--- what the text is read as, by the parity of its length
-read_by : (text bs : List ℕ) → (length text % 2 ≡ 0) ⊎ (length text % 2 ≡ 0 → ⊥) → (unhexed text ≡ Some bs) ↔ Writes text bs
-read_by text bs (inl h) =
-    let t : unhexed text ≡ bytes_of (length text / 2) text = cond-true _ _ _ (eq-eqb (length text % 2) 0 h) in
-    let p = pairs (length text / 2) text (omega arith) bs in
-    (λ e. p.0 (sym t ∙ e), λ w. t ∙ p.1 w)
-read_by text bs (inr h) =
-    let t : unhexed text ≡ None = cond-false _ _ _ (ne_eqb (length text % 2) 0 h) in
-    (λ e. cc, λ w. absurd (h (even text bs w.1)))
+-- a text is read as exactly what it writes
+exactly : (text bs : List ℕ) → (unhexed text ≡ Some bs) ↔ Writes text bs
+exactly [] [] = (λ e. (tt, refl), λ w. refl)
+exactly [] (b ∷ bs) = (λ e. cc, λ w. cc w.1)
+exactly (c ∷ []) [] = (λ e. cc, λ w. cc w.1)
+exactly (c ∷ []) (b ∷ bs) = (λ e. cc, λ w. cc w.1)
+exactly (c ∷ d ∷ text) bs = (read c d text (λ ys. (exactly text ys).0) bs, written c d text (λ ys. (exactly text ys).1) bs)
 
 -- what equals what the text is read as is exactly what it writes
 pub reads : (text : List ℕ) (o : Option (List ℕ)) → o ≡ unhexed text → ReadsHex text o
-reads text o e bs =
-    let known = read_by text bs (cases_eq (length text % 2) 0) in
-    (λ f. known.0 (sym e ∙ f), λ w. e ∙ known.1 w)
+reads text o e bs = let known = exactly text bs in (λ f. known.0 (sym e ∙ f), λ w. e ∙ known.1 w)

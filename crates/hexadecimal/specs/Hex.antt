@@ -1,26 +1,35 @@
 -- Bytes written as hexadecimal digits, two to a byte. Assumes nothing.
-use Rattle.std.specs.Prelude.{◌≡◌, ℕ, zero, suc, ◌+◌, ◌-◌, ◌*◌, ◌/◌, ◌%◌, ◌<◌, cond, ◌&&◌, ◌↔◌, List, [], ◌∷◌, map, length, drop, Some, None, Option, ◌==◌, nat_le, nat_lt, slice_index}
+use Rattle.std.specs.Prelude.{◌≡◌, ℕ, ◌+◌, ◌-◌, ◌*◌, ◌/◌, ◌%◌, ◌<◌, cond, ◌&&◌, ◌↔◌, List, [], ◌∷◌, map, Some, None, Option, nat_le, nat_lt}
 use Rattle.std.specs.List.{AllByRecursion}
 use Rattle.std.specs.Option.{option_map}
 
--- The value of the digit with the code c, '0' to '9', 'a' to 'f' or 'A' to 'F'; 16 for any other.
-abbrev pub digit_value : ℕ → ℕ
+-- The value of the digit with the code c, '0' to '9', 'a' to 'f' or 'A' to 'F'; none of any other.
+abbrev pub digit_value : ℕ → Option ℕ
 digit_value c =
-    cond (nat_le 48 c && nat_le c 57) (c - 48)
-    (cond (nat_le 97 c && nat_le c 102) (c - 87)
-    (cond (nat_le 65 c && nat_le c 70) (c - 55) 16))
+    cond (nat_le 48 c && nat_le c 57) (Some (c - 48))
+    (cond (nat_le 97 c && nat_le c 102) (Some (c - 87))
+    (cond (nat_le 65 c && nat_le c 70) (Some (c - 55)) None))
 
--- The first k bytes that the text writes, the high digit first; none if one of the digits is no digit.
-abbrev pub bytes_of : ℕ → List ℕ → Option (List ℕ)
-bytes_of zero text = Some []
-bytes_of (suc k) text =
-    let high = digit_value (slice_index text 0) in
-    let low = digit_value (slice_index text 1) in
-    cond (nat_lt high 16 && nat_lt low 16) (option_map (λ bs. (high * 16 + low) ∷ bs) (bytes_of k (drop 2 text))) None
+-- The byte of two digits with these values, the high one first; none if one of them is no digit.
+abbrev pub byte_of : Option ℕ → Option ℕ → Option ℕ
+byte_of None low = None
+byte_of (Some high) None = None
+byte_of (Some high) (Some low) = Some (high * 16 + low)
 
--- The bytes that a text writes; none for an odd number of digits.
+-- The byte that two codes write, the high digit first; none if one of them is no digit.
+abbrev pub byte_value : ℕ → ℕ → Option ℕ
+byte_value c d = byte_of (digit_value c) (digit_value d)
+
+-- A byte in front of others; none where one of the two is none.
+abbrev pub in_front : Option ℕ → Option (List ℕ) → Option (List ℕ)
+in_front None bytes = None
+in_front (Some byte) bytes = option_map (λ bs. byte ∷ bs) bytes
+
+-- The bytes that a text writes; none for an odd number of digits, or if one of them is no digit.
 abbrev pub unhexed : List ℕ → Option (List ℕ)
-unhexed text = cond (length text % 2 == 0) (bytes_of (length text / 2) text) None
+unhexed [] = Some []
+unhexed (c ∷ []) = None
+unhexed (c ∷ d ∷ text) = in_front (byte_value c d) (unhexed text)
 
 -- The code of the digit with the value n, with a small letter from 10 on.
 abbrev pub digit_of : ℕ → ℕ

@@ -1,23 +1,28 @@
 // Hexadecimal text to bytes.
 #![tactic(auto)]
 
-ghost use Rattle.std.specs.Prelude.{◌≡◌, ◌≤◌, IfOk, vec_items};
+ghost use Rattle.std.specs.Prelude.{◌≡◌, ◌<◌, IfOk, IfSome, vec_items};
 ghost use Rattle.std.specs.Option.{option_map};
-ghost use Rattle.hexadecimal.specs.Hex.{digit_value, unhexed, ReadsHex};
+ghost use Rattle.hexadecimal.specs.Hex.{digit_value, byte_value, unhexed, ReadsHex};
+
+#[cfg(test)]
+mod tests;
 
 use std::alloc::{AllocError, Global};
 
-// The value of a digit, or 16.
-fn digit(c: u8) -> u8
+// The value of a digit, or none of any other byte.
+fn digit(c: u8) -> Option<u8>
     ensures value { result ≡ digit_value c }
-    ensures bound { result ≤ 16 }
+    ensures bound { IfSome result (λ n. n < 16) }
 {
-    match c {
-        b'0'..=b'9' => c - b'0',
-        b'a'..=b'f' => c - b'a' + 10,
-        b'A'..=b'F' => c - b'A' + 10,
-        _ => 16,
-    }
+    Some(char::from(c).to_digit(16)? as u8)
+}
+
+// The byte of two digits, the high one first; none if one of them is no digit.
+fn byte(high: u8, low: u8) -> Option<u8>
+    ensures { result ≡ byte_value high low }
+{
+    Some(digit(high)? * 16 + digit(low)?)
 }
 
 // The bytes that a text of hexadecimal digits writes, or none if it is no such text.
@@ -29,13 +34,11 @@ pub fn unhex(heap: Global, text: &[u8]) -> Result<Option<Vec<u8>>, AllocError>
         return Ok(None);
     }
     let mut bytes = Vec::new(heap);
-    for i in 0..text.len() / 2 {
-        let high = digit(text[2 * i]);
-        let low = digit(text[2 * i + 1]);
-        if high >= 16 || low >= 16 {
+    for pair in text.chunks_exact(2) {
+        let Some(byte) = byte(pair[0], pair[1]) else {
             return Ok(None);
-        }
-        bytes.push(high * 16 + low)?;
+        };
+        bytes.push(byte)?;
     }
     Ok(Some(bytes))
 }

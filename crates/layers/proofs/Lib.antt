@@ -1,4 +1,3 @@
 pub mod Listing
-pub mod Clearing
 pub mod Pinning
 pub mod Grading

@@ -1,4 +1,4 @@
-pub mod PinList
 pub mod Pins
+pub mod Leaves
 pub mod Reach
 pub mod Layered

@@ -1,5 +1,7 @@
 -- The layer of pins over a measure. Assumes nothing.
-use Rattle.std.specs.Prelude.{◌≡◌, ℕ, ◌-◌, ◌≤◌, Bool, cond, ◌&&◌, ◌⊎◌, ◌↔◌, List, [], ◌∷◌, length, Ok, Err, Result, nat_le, nat_lt}
+use Rattle.std.specs.Prelude.{◌≡◌, ℕ, ◌-◌, ◌≤◌, Bool, cond, ◌&&◌, ◌⊎◌, ◌↔◌, List, [], ◌∷◌, length, Ok, Err, Result, ◌==◌, nat_le, nat_lt}
+use Rattle.std.specs.Set.{remove_key}
+use Rattle.std.specs.Coded.{×_prop, Π_prop, →_prop, Unit-prop, le_prop}
 use Rattle.families.specs.Chain.{Has, has}
 use Rattle.families.specs.Pin.{clear, Inner}
 use Rattle.lines.specs.declared.fault.Fault.{Fault}
@@ -28,6 +30,10 @@ abbrev pub release_answer : Layer → ℕ → List ℕ → ℕ → Result (Unit 
 release_answer layer n pins v =
     cond (is_inner n v) (cond (has pins v) (Ok tt) (Err (fault NotPinned layer v))) (Err (fault Vertex layer v))
 
+-- The pins without the first v.
+abbrev pub without : ℕ → List ℕ → List ℕ
+without v pins = remove_key (λ p. v == p) pins
+
 -- No number stands in the list twice.
 abbrev pub Distinct : List ℕ → Type 0
 Distinct [] = Unit {0}
@@ -38,6 +44,21 @@ pub record LawfulPins (n : ℕ) (pins : List ℕ) : Type 0 where
   pub inner : Inner n pins
   pub distinct : Distinct pins
   pub few : length pins ≤ 32
+
+-- The pins of a line are lawful in one way only, so that a layer can hold the fact.
+Distinct-prop : (pins : List ℕ) → IsProp (Distinct pins)
+Distinct-prop [] = Unit-prop
+Distinct-prop (p ∷ ps) = ×_prop (→_prop (λ (a b : ⊥). absurd a)) (Distinct-prop ps)
+
+Inner-prop : (n : ℕ) (pins : List ℕ) → IsProp (Inner n pins)
+Inner-prop n pins = Π_prop (λ p. →_prop (×_prop le_prop le_prop))
+
+pub LawfulPins-prop : (n : ℕ) (pins : List ℕ) → IsProp (LawfulPins n pins)
+LawfulPins-prop n pins a b = λ i. record {
+  inner = Inner-prop n pins a.inner b.inner i;
+  distinct = Distinct-prop pins a.distinct b.distinct i;
+  few = le_prop a.few b.few i;
+}
 
 -- The pins after are v and the pins before.
 pub record Adds (v : ℕ) (before after : List ℕ) : Type 0 where

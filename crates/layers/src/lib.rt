@@ -1,8 +1,6 @@
 // Layers over any measure, each a measure again: pins that no link may skip, and a reach that no link may pass.
 #![tactic(auto)]
 
-mod faults;
-mod pin_list;
 pub mod pins;
 pub mod reach;
 #[cfg(test)]

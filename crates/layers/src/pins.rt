@@ -1,45 +1,46 @@
-ghost use Rattle.std.specs.Prelude.{◌≡◌, ◌≤◌, [], ◌∷◌, ◌++◌, is_ok, IfOk, if◌then◌else◌, Decides, MatchResult, OnErr, OnOk};
+ghost use Rattle.std.specs.Prelude.{◌≡◌, ◌≤◌, [], ◌∷◌, ◌++◌, ◌==◌, is_ok, position, Decides, MatchResult, OnOk};
+ghost use Rattle.families.specs.Pin.{clear};
 ghost use Rattle.lines.specs.declared.fault.Cause.TheVariants.{Limits};
 ghost use Rattle.lines.specs.declared.fault.Layer.TheVariants.{Content};
 ghost use Rattle.lines.specs.Fault.{fault};
-ghost use Rattle.layers.specs.PinList.{listed, without};
-ghost use Rattle.layers.specs.Pins.{is_inner, over_pins, pin_answer, release_answer, LawfulPins, Distinct, Adds, TakesOut};
+ghost use Rattle.layers.specs.Pins.{is_inner, over_pins, pin_answer, release_answer, without, LawfulPins, LawfulPins-prop, Adds, TakesOut};
 ghost use Rattle.layers.specs.Layered.{over_pins_rules};
 
-use crate::faults::refusal;
-use crate::pin_list::PinList;
+use arrayvec::ArrayVec;
 use lines::fault::{Cause, Fault, Layer};
 use lines::level::Level;
 use lines::line::Line;
 use measures::measure::Measure;
 
-// Pins over a measure, for lines of one number of vertices: no link may skip a pin.
+// Pins over a measure, for lines of one number of vertices: no link may skip a pin. The pins stand in the order of pinning.
 #[derive(Drop)]
 pub struct Pins<M> {
     below: M,
     count: usize,
-    pins: PinList,
+    pins: ArrayVec<usize, 32>,
+    pub ghost lawful: { LawfulPins count pins.items } by { LawfulPins-prop count pins.items },
 }
 
 impl<M: Drop> Pins<M> {
     // No pins yet, over the measure `below`, for lines of n vertices.
     pub fn over(below: M, n: usize) -> Result<Pins<M>, Fault>
         ensures limits { Decides (is_ok result) ((2 ≤ n) × (n ≤ 256)) }
-        ensures answer { MatchResult result (λ p. (p.below ≡ below) × (p.count ≡ n) × (listed p.pins ≡ [])) (λ f. f ≡ fault Limits Content 0) }
-        ensures keeps { IfOk result (λ p. LawfulPins p.count (listed p.pins)) }
+        ensures answer { MatchResult result (λ p. (p.below ≡ below) × (p.count ≡ n) × (p.pins.items ≡ [])) (λ f. f ≡ fault Limits Content 0) }
     {
         if n < 2 || n > 256 {
-            return Err(refusal(Cause::Limits, Layer::Content, 0));
+            return Err(Fault::new(Cause::Limits, Layer::Content, 0));
         }
         Ok(Pins {
             below,
             count: n,
-            pins: PinList::none(),
+            pins: ArrayVec::new(),
         })
     }
 }
 
 impl<M> Pins<M> {
+    ghost use Rattle.layers.specs.Leaves.{Leaves};
+
     // The measure below.
     pub fn below(&self) -> &M
         ensures { result.now ≡ self.now.below }
@@ -56,76 +57,62 @@ impl<M> Pins<M> {
 
     // The pins, in the order of pinning.
     pub fn pins(&self) -> &[usize]
-        ensures { result.now ≡ listed self.now.pins }
+        ensures { result.now ≡ self.now.pins.items }
     {
-        self.pins.all()
+        &self.pins
     }
 
     // Pins v, for the layer that asks: it comes after the other pins.
+    #[tactic(auto, using(crate::proofs::Listing::has_is))]
     pub fn pin_in(&mut self, v: usize, layer: Layer) -> Result<(), Fault>
-        ensures answer { result ≡ pin_answer layer self.old.count (listed self.old.pins) v }
-        ensures pins_after { listed self.new.pins ≡ (if is_ok result then listed self.old.pins ++ (v ∷ []) else listed self.old.pins) }
-        ensures pins_more { OnOk result (Adds v (listed self.old.pins) (listed self.new.pins)) }
-        ensures refusal_leaves_layer { OnErr result (self.new ≡ self.old) }
-        ensures same_measure { self.new.below ≡ self.old.below }
-        ensures same_count { self.new.count ≡ self.old.count }
-        ensures keeps { LawfulPins self.old.count (listed self.old.pins) → LawfulPins self.new.count (listed self.new.pins) }
+        ensures answer { result ≡ pin_answer layer self.old.count self.old.pins.items v }
+        ensures leaves { Leaves result (self.old.pins.items ++ (v ∷ [])) self.old self.new }
+        ensures pins_more { OnOk result (Adds v self.old.pins.items self.new.pins.items) }
     {
         if !self.is_inner(v) {
-            return Err(refusal(Cause::Vertex, layer, v));
+            return Err(Fault::new(Cause::Vertex, layer, v));
         }
-        if self.pins.has(v) {
-            return Err(refusal(Cause::Pinned, layer, v));
+        if self.pins.contains(&v) {
+            return Err(Fault::new(Cause::Pinned, layer, v));
         }
-        if self.pins.full() {
-            return Err(refusal(Cause::Full, layer, 0));
+        if self.pins.is_full() {
+            return Err(Fault::new(Cause::Full, layer, 0));
         }
         self.pins.push(v);
         Ok(())
     }
 
     // Releases v, for the layer that asks: the other pins keep their order.
+    #[tactic(auto, using(crate::proofs::Listing::found, crate::proofs::Listing::missing))]
     pub fn release_in(&mut self, v: usize, layer: Layer) -> Result<(), Fault>
-        ensures answer { result ≡ release_answer layer self.old.count (listed self.old.pins) v }
-        ensures pins_after { listed self.new.pins ≡ (if is_ok result then without v (listed self.old.pins) else listed self.old.pins) }
-        ensures pins_less { OnOk result (Distinct (listed self.old.pins) → TakesOut v (listed self.old.pins) (listed self.new.pins)) }
-        ensures refusal_leaves_layer { OnErr result (self.new ≡ self.old) }
-        ensures same_measure { self.new.below ≡ self.old.below }
-        ensures same_count { self.new.count ≡ self.old.count }
-        ensures keeps { LawfulPins self.old.count (listed self.old.pins) → LawfulPins self.new.count (listed self.new.pins) }
+        ensures answer { result ≡ release_answer layer self.old.count self.old.pins.items v }
+        ensures leaves { Leaves result (without v self.old.pins.items) self.old self.new }
+        ensures pins_less { OnOk result (TakesOut v self.old.pins.items self.new.pins.items) }
     {
         if !self.is_inner(v) {
-            return Err(refusal(Cause::Vertex, layer, v));
+            return Err(Fault::new(Cause::Vertex, layer, v));
         }
-        if !self.pins.has(v) {
-            return Err(refusal(Cause::NotPinned, layer, v));
-        }
-        self.pins.remove(v);
+        let Some(place) = self.place(v) else {
+            return Err(Fault::new(Cause::NotPinned, layer, v));
+        };
+        self.pins.remove(place);
         Ok(())
     }
 
     // Pins v: it comes after the other pins.
     pub fn pin(&mut self, v: usize) -> Result<(), Fault>
-        ensures answer { result ≡ pin_answer Content self.old.count (listed self.old.pins) v }
-        ensures pins_after { listed self.new.pins ≡ (if is_ok result then listed self.old.pins ++ (v ∷ []) else listed self.old.pins) }
-        ensures pins_more { OnOk result (Adds v (listed self.old.pins) (listed self.new.pins)) }
-        ensures refusal_leaves_layer { OnErr result (self.new ≡ self.old) }
-        ensures same_measure { self.new.below ≡ self.old.below }
-        ensures same_count { self.new.count ≡ self.old.count }
-        ensures keeps { LawfulPins self.old.count (listed self.old.pins) → LawfulPins self.new.count (listed self.new.pins) }
+        ensures answer { result ≡ pin_answer Content self.old.count self.old.pins.items v }
+        ensures leaves { Leaves result (self.old.pins.items ++ (v ∷ [])) self.old self.new }
+        ensures pins_more { OnOk result (Adds v self.old.pins.items self.new.pins.items) }
     {
         self.pin_in(v, Layer::Content)
     }
 
     // Releases v: the other pins keep their order.
     pub fn release(&mut self, v: usize) -> Result<(), Fault>
-        ensures answer { result ≡ release_answer Content self.old.count (listed self.old.pins) v }
-        ensures pins_after { listed self.new.pins ≡ (if is_ok result then without v (listed self.old.pins) else listed self.old.pins) }
-        ensures pins_less { OnOk result (Distinct (listed self.old.pins) → TakesOut v (listed self.old.pins) (listed self.new.pins)) }
-        ensures refusal_leaves_layer { OnErr result (self.new ≡ self.old) }
-        ensures same_measure { self.new.below ≡ self.old.below }
-        ensures same_count { self.new.count ≡ self.old.count }
-        ensures keeps { LawfulPins self.old.count (listed self.old.pins) → LawfulPins self.new.count (listed self.new.pins) }
+        ensures answer { result ≡ release_answer Content self.old.count self.old.pins.items v }
+        ensures leaves { Leaves result (without v self.old.pins.items) self.old self.new }
+        ensures pins_less { OnOk result (TakesOut v self.old.pins.items self.new.pins.items) }
     {
         self.release_in(v, Layer::Content)
     }
@@ -136,30 +123,40 @@ impl<M> Pins<M> {
     {
         v > 0 && v < self.count.saturating_sub(1)
     }
+
+    // The place at which v stands among the pins, if it is pinned.
+    fn place(&self, v: usize) -> Option<usize>
+        ensures { result ≡ position (λ p. p == v) self.now.pins.items }
+    {
+        self.pins.iter().position(|p| *p == v)
+    }
+
+    // Whether no pin lies strictly between i and j.
+    fn none_between(&self, i: usize, j: usize) -> bool
+        ensures { result ≡ clear self.now.pins.items i j }
+    {
+        !self.pins.iter().any(|p| i < *p && *p < j)
+    }
 }
 
 impl<M: Measure> Measure for Pins<M> {
     const LARGEST: u32 = M::LARGEST;
 
-    ghost largest = { M.Measure.largest };
+    ghost LARGEST = { M.Measure.LARGEST };
 
-    ghost says = { λ p. over_pins (listed p.pins) (M.Measure.says p.below) };
+    ghost says = { λ p. over_pins p.pins.items (M.Measure.says p.below) };
 
-    ghost rules = { λ m. over_pins_rules (listed m.pins) (M.Measure.rules m.below) };
-
-    fn largest_tolerance() -> u32 {
-        M::largest_tolerance()
-    }
+    ghost rules = { λ m. over_pins_rules m.pins.items (M.Measure.rules m.below) };
 
     fn allows(&self, line: &Line, i: usize, j: usize, t: u32) -> bool {
-        self.below.allows(line, i, j, t) && self.pins.none_between(i, j)
+        self.below.allows(line, i, j, t) && self.none_between(i, j)
     }
 
     // The pins are looked at once, for all levels.
-    fn grade(&self, line: &Line, levels: &[Level], i: usize, j: usize) -> usize {
-        if !self.pins.none_between(i, j) {
-            return levels.len() + 1;
+    fn first_level(&self, line: &Line, levels: &[Level], i: usize, j: usize) -> Option<usize> {
+        if !self.none_between(i, j) {
+            return None;
         }
-        self.below.grade(line, levels, i, j)
+        self.below.first_level(line, levels, i, j)
     }
 }

@@ -5,7 +5,6 @@ ghost use Rattle.lines.specs.Fault.{fault};
 ghost use Rattle.layers.specs.Reach.{over_reach};
 ghost use Rattle.layers.specs.Layered.{over_reach_rules};
 
-use crate::faults::refusal;
 use lines::fault::{Cause, Fault, Layer};
 use lines::level::Level;
 use lines::line::Line;
@@ -25,7 +24,7 @@ impl<M: Drop> Reach<M> {
         ensures answer { MatchResult result (λ p. (p.below ≡ below) × (p.reach ≡ r)) (λ f. f ≡ fault Limits Content 2) }
     {
         if r < 1 || r > 255 {
-            return Err(refusal(Cause::Limits, Layer::Content, 2));
+            return Err(Fault::new(Cause::Limits, Layer::Content, 2));
         }
         Ok(Reach { below, reach: r })
     }
@@ -50,29 +49,25 @@ impl<M> Reach<M> {
 impl<M: Measure> Measure for Reach<M> {
     const LARGEST: u32 = M::LARGEST;
 
-    ghost largest = { M.Measure.largest };
+    ghost LARGEST = { M.Measure.LARGEST };
 
-    ghost says = { λ p. over_reach p.reach M.Measure.largest (M.Measure.says p.below) };
+    ghost says = { λ p. over_reach p.reach M.Measure.LARGEST (M.Measure.says p.below) };
 
     ghost rules = { λ m. over_reach_rules m.reach (M.Measure.rules m.below) };
 
-    fn largest_tolerance() -> u32 {
-        M::largest_tolerance()
-    }
-
     fn allows(&self, line: &Line, i: usize, j: usize, t: u32) -> bool {
-        if i >= j || j >= line.count() || t > M::largest_tolerance() {
+        if !line.is_link(i, j) || t > M::LARGEST {
             return false;
         }
         j == i + 1 || j - i <= self.reach && self.below.allows(line, i, j, t)
     }
 
     // The reach is looked at once, for all levels.
-    fn grade(&self, line: &Line, levels: &[Level], i: usize, j: usize) -> usize {
+    fn first_level(&self, line: &Line, levels: &[Level], i: usize, j: usize) -> Option<usize> {
         let ahead = j.saturating_sub(i);
         if ahead > 1 && ahead > self.reach {
-            return levels.len() + 1;
+            return None;
         }
-        self.below.grade(line, levels, i, j)
+        self.below.first_level(line, levels, i, j)
     }
 }

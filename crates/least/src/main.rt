@@ -5,7 +5,6 @@ use anyhow::anyhow;
 use drawings::drawing::DrawError;
 use drawings::pack::draw_pack;
 use drawings::text::drawing_text;
-use marker::verdict::refusal_line;
 use std::io::Read;
 
 fn main(rt: HostRuntime) -> anyhow::Result<()> {
@@ -18,7 +17,7 @@ fn main(rt: HostRuntime) -> anyhow::Result<()> {
             Ok(())
         }
         Err(DrawError::Refused(fault)) => {
-            rt.println(refusal_line(heap, fault)?)?;
+            println!(rt; "{fault}")?;
             Err(anyhow!("refused"))
         }
         Err(DrawError::OutOfMemory) => Err(anyhow!("out of memory")),

@@ -1,6 +1,7 @@
 -- Judging vertices accepts exactly lawful lines, and names the lowest bad one. Assumes nothing.
-use Rattle.std.proofs.Common.{◌≡◌, ℕ, ◌+◌, ◌<◌, Bool, true, false, cond, ◌&&◌, T, leb, List, [], ◌∷◌, length, get_or, drop, ℤ, pos, negsuc, ◌≤ℤ◌, is_ok, Ok, Err, Decides, refl, ◌∙◌, arith}
+use Rattle.std.proofs.Common.{◌≡◌, ℕ, ◌+◌, ◌<◌, true, false, cond, ◌&&◌, leb, List, [], ◌∷◌, length, get_or, drop, ℤ, pos, negsuc, ◌≤ℤ◌, is_ok, Ok, Err, Decides, refl, ◌∙◌, arith}
 use lib.Signed.{le_z}
+use Rattle.std.proofs.lemmas.Int.{ints}
 use Rattle.std.specs.List.{AllByRecursion}
 use Rattle.std.proofs.lemmas.List.{at_drop_more}
 use Rattle.std.proofs.ByRecursion.{All-get_or, All-from_get_or}
@@ -30,16 +31,8 @@ module _ (i : ℕ) (vs : List Vertex) (h : i < length vs) where
   good_vertex b = opened ∙ cond-true _ _ _ b
 
 -- a test of order, and the order
-holds : (b : Bool) → b ≡ true → T b
-holds true e = tt
-holds false e = let z : ◌≡◌ {A = ℕ} 0 1 = cc in absurd (omega arith)
-
-held : (b : Bool) → T b → b ≡ true
-held true t = refl
-held false t = absurd t
-
 decides_le_z : (a b : ℤ) → Decides (le_z a b) (a ≤ℤ b)
-decides_le_z a b = (λ e. record { le = holds (le_z a b) e }, λ h. held (le_z a b) h.le)
+decides_le_z a b = (λ e. grind (arith, ints), λ h. grind (arith, ints))
 
 pub in_range_means : (v : Vertex) → Decides (in_range v) (InRange v)
 in_range_means v =

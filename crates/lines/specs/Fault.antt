@@ -1,5 +1,5 @@
 -- Faults: why a call refuses, which layer found it, and where. Assumes nothing.
-use Rattle.std.specs.Prelude.{ℕ, Ok, Err, Result}
+use Rattle.std.specs.Prelude.{ℕ, List, ◌++◌, Ok, Err, codes, decimal, Result}
 use Rattle.lines.specs.declared.fault.Cause.{Cause}
 use Rattle.lines.specs.declared.fault.Cause.TheVariants.{RunsOut, WrongKind, WrongLength, LeftOver, Coordinate, Tolerance, Weight, Unknown, Order, Nesting, Link, Total, Vertex, Pinned, NotPinned, Full, OtherCount, Memory, Level, Limits}
 use Rattle.lines.specs.declared.fault.Layer.{Layer}
@@ -63,6 +63,15 @@ fault_at c l p s = record { cause = c; layer = l; place = p; spot = s }
 -- The fault at a place, with spot 0.
 abbrev pub fault : Cause → Layer → ℕ → Fault
 fault c l p = fault_at c l p 0
+
+-- The line of a refusal: refused N layer Y place P spot Q.
+abbrev pub numbered_text : ℕ → ℕ → ℕ → ℕ → List ℕ
+numbered_text number layer place spot =
+    codes "refused " ++ (decimal number ++ (codes " layer " ++ (decimal layer ++ (codes " place " ++ (decimal place ++ (codes " spot " ++ decimal spot))))))
+
+-- The line of a fault, by the numbers of its cause and its layer.
+abbrev pub refused_text : Fault → List ℕ
+refused_text e = numbered_text (cause_number e.cause) (layer_number e.layer) e.place e.spot
 
 -- What comes after a value; a fault goes on unchanged.
 abbrev pub then : {X Y : Type 0} → Result X Fault → (X → Result Y Fault) → Result Y Fault

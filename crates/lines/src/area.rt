@@ -17,13 +17,13 @@ fn step(p: Vertex, q: Vertex) -> i64
 pub fn link_area(line: &Line, i: usize, j: usize) -> u64
     ensures { result ≡ link_area line.now.vertices.now i j }
 {
-    let vertices = line.vertices();
-    if i >= j || j >= vertices.len() {
+    if !line.is_link(i, j) {
         return 0;
     }
+    let vertices = line.vertices();
     let mut sum = 0;
-    for k in i..j {
-        sum += step(vertices[k], vertices[k + 1]);
+    for ends in vertices[i..=j].windows(2) {
+        sum += step(ends[0], ends[1]);
     }
     sum += step(vertices[j], vertices[i]);
     sum.unsigned_abs()

@@ -1,38 +1,40 @@
-ghost use Rattle.std.specs.Prelude.{◌≡◌};
-ghost use Rattle.lines.specs.Fault.{cause_number, layer_number};
+ghost use Rattle.std.specs.Prelude.{◌≡◌, Some};
+ghost use Rattle.lines.specs.Fault.{cause_number, layer_number, fault, refused_text};
+
+use std::fmt;
 
 // Why a call refuses. Each cause has a number, by which it is printed.
 #[derive(Clone, Copy, PartialEq, Eq, Debug)]
 pub enum Cause {
-    RunsOut,
-    WrongKind,
-    WrongLength,
-    LeftOver,
-    Coordinate,
-    Tolerance,
-    Weight,
-    Unknown,
-    Order,
-    Nesting,
-    Link,
-    Total,
-    Vertex,
-    Pinned,
-    NotPinned,
-    Full,
-    OtherCount,
-    Memory,
-    Level,
-    Limits,
+    RunsOut = 1,
+    WrongKind = 2,
+    WrongLength = 3,
+    LeftOver = 4,
+    Coordinate = 5,
+    Tolerance = 6,
+    Weight = 7,
+    Unknown = 8,
+    Order = 9,
+    Nesting = 10,
+    Link = 11,
+    Total = 12,
+    Vertex = 13,
+    Pinned = 14,
+    NotPinned = 15,
+    Full = 16,
+    OtherCount = 17,
+    Memory = 18,
+    Level = 19,
+    Limits = 20,
 }
 
 // The part of the library that found the fault.
 #[derive(Clone, Copy, PartialEq, Eq, Debug)]
 pub enum Layer {
-    Pack,
-    Content,
-    Marker,
-    Sheet,
+    Pack = 1,
+    Content = 2,
+    Marker = 3,
+    Sheet = 4,
 }
 
 // A refusal: why, which layer found it, and where. What place and spot count depends on the cause.
@@ -44,44 +46,45 @@ pub struct Fault {
     pub spot: usize,
 }
 
-impl Cause {
-    pub fn number(self) -> u8
-        ensures { result ≡ cause_number self }
+impl Fault {
+    // The refusal of a cause at a place, with spot 0.
+    pub fn new(cause: Cause, layer: Layer, place: usize) -> Fault
+        ensures { result ≡ fault cause layer place }
     {
-        match self {
-            Cause::RunsOut => 1,
-            Cause::WrongKind => 2,
-            Cause::WrongLength => 3,
-            Cause::LeftOver => 4,
-            Cause::Coordinate => 5,
-            Cause::Tolerance => 6,
-            Cause::Weight => 7,
-            Cause::Unknown => 8,
-            Cause::Order => 9,
-            Cause::Nesting => 10,
-            Cause::Link => 11,
-            Cause::Total => 12,
-            Cause::Vertex => 13,
-            Cause::Pinned => 14,
-            Cause::NotPinned => 15,
-            Cause::Full => 16,
-            Cause::OtherCount => 17,
-            Cause::Memory => 18,
-            Cause::Level => 19,
-            Cause::Limits => 20,
+        Fault {
+            cause,
+            layer,
+            place,
+            spot: 0,
         }
     }
 }
 
-impl Layer {
-    pub fn number(self) -> u8
-        ensures { result ≡ layer_number self }
-    {
-        match self {
-            Layer::Pack => 1,
-            Layer::Content => 2,
-            Layer::Marker => 3,
-            Layer::Sheet => 4,
-        }
+impl From<Cause> for u8 {
+    ghost from_gives = { λ cause number. number ≡ cause_number cause };
+
+    fn from(cause: Cause) -> u8 {
+        cause as u8
+    }
+}
+
+impl From<Layer> for u8 {
+    ghost from_gives = { λ layer number. number ≡ layer_number layer };
+
+    fn from(layer: Layer) -> u8 {
+        layer as u8
+    }
+}
+
+// The line of a refusal.
+impl fmt::Display for Fault {
+    ghost output = { λ fault. Some (refused_text fault) };
+
+    fn fmt<W: fmt::Write>(&self, f: &mut fmt::Formatter<W>) -> fmt::Result {
+        let cause = u8::from(self.cause);
+        let layer = u8::from(self.layer);
+        let place = self.place;
+        let spot = self.spot;
+        write!(f, "refused {cause} layer {layer} place {place} spot {spot}")
     }
 }

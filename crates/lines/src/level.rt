@@ -16,12 +16,7 @@ pub fn check_count(m: usize, layer: Layer) -> Result<(), Fault>
     ensures lawful { Decides (is_ok result) ((1 ≤ m) × (m ≤ 8)) }
 {
     if m < 1 || m > 8 {
-        return Err(Fault {
-            cause: Cause::Limits,
-            layer,
-            place: 1,
-            spot: 0,
-        });
+        return Err(Fault::new(Cause::Limits, layer, 1));
     }
     Ok(())
 }
@@ -34,20 +29,10 @@ pub fn check_levels(levels: &[Level], largest: u32, layer: Layer) -> Result<(), 
     let mut least: u64 = 0;
     for (i, l) in levels.iter().enumerate() {
         if (l.tolerance as u64) < least || l.tolerance > largest {
-            return Err(Fault {
-                cause: Cause::Tolerance,
-                layer,
-                place: i + 1,
-                spot: 0,
-            });
+            return Err(Fault::new(Cause::Tolerance, layer, i + 1));
         }
         if l.weight < 1 || l.weight > 1000 {
-            return Err(Fault {
-                cause: Cause::Weight,
-                layer,
-                place: i + 1,
-                spot: 0,
-            });
+            return Err(Fault::new(Cause::Weight, layer, i + 1));
         }
         least = l.tolerance as u64 + 1;
     }

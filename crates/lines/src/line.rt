@@ -1,5 +1,5 @@
-ghost use Rattle.std.specs.Prelude.{◌≡◌, length, MatchResult};
-ghost use Rattle.lines.specs.Line.{Lawful, Blamed, judged_line, built_in};
+ghost use Rattle.std.specs.Prelude.{◌≡◌, ◌<◌, length, Decides, MatchResult};
+ghost use Rattle.lines.specs.Line.{Lawful, Blamed, judged_line, built_in, is_link};
 
 use crate::fault::{Cause, Fault, Layer};
 use crate::vertex::Vertex;
@@ -31,21 +31,11 @@ impl<'a> Line<'a> {
     {
         let count = vertices.len();
         if count < 2 || count > 256 {
-            return Err(Fault {
-                cause: Cause::Limits,
-                layer: Layer::Content,
-                place: 0,
-                spot: 0,
-            });
+            return Err(Fault::new(Cause::Limits, Layer::Content, 0));
         }
         for (i, v) in vertices.iter().enumerate() {
             if !v.in_range() {
-                return Err(Fault {
-                    cause: Cause::Coordinate,
-                    layer: Layer::Content,
-                    place: i,
-                    spot: 0,
-                });
+                return Err(Fault::new(Cause::Coordinate, Layer::Content, i));
             }
         }
         self.vertices = vertices;
@@ -57,6 +47,14 @@ impl<'a> Line<'a> {
         ensures { result ≡ length self.now.vertices.now }
     {
         self.vertices.len()
+    }
+
+    // Whether i → j is a link: i is below j, and both are vertices.
+    pub fn is_link(&self, i: usize, j: usize) -> bool
+        ensures value { result ≡ is_link self.now.vertices.now i j }
+        ensures decides { Decides result ((i < j) × (j < length self.now.vertices.now)) }
+    {
+        i < j && j < self.count()
     }
 
     // The vertices.

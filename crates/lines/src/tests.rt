@@ -45,15 +45,6 @@ fn level(tolerance: u32, weight: u32) -> Level {
     Level { tolerance, weight }
 }
 
-fn fault(cause: Cause, layer: Layer, place: usize) -> Fault {
-    Fault {
-        cause,
-        layer,
-        place,
-        spot: 0,
-    }
-}
-
 // These vertices make a line.
 fn makes(rt: &impl Abort, vertices: &[Vertex]) -> Result<(), Fail> {
     let mut line = Line::built_in();
@@ -68,7 +59,7 @@ fn refuses(rt: &impl Abort, vertices: &[Vertex], cause: Cause, place: usize) -> 
     line.make(&THREE)?;
     assert_eq!(rt;
         line.make(vertices),
-        Err(fault(cause, Layer::Content, place))
+        Err(Fault::new(cause, Layer::Content, place))
     );
     assert_eq!(rt; line.count(), 3);
     Ok(())
@@ -109,13 +100,13 @@ fn the_count_of_vertices_comes_first(rt: HostRuntime) -> Result<(), Fail> {
 fn the_count_of_levels(rt: HostRuntime) {
     assert_eq!(rt;
         check_count(0, Layer::Marker),
-        Err(fault(Cause::Limits, Layer::Marker, 1))
+        Err(Fault::new(Cause::Limits, Layer::Marker, 1))
     );
     assert_eq!(rt; check_count(1, Layer::Marker), Ok(()));
     assert_eq!(rt; check_count(8, Layer::Sheet), Ok(()));
     assert_eq!(rt;
         check_count(9, Layer::Sheet),
-        Err(fault(Cause::Limits, Layer::Sheet, 1))
+        Err(Fault::new(Cause::Limits, Layer::Sheet, 1))
     );
 }
 
@@ -123,11 +114,11 @@ fn the_count_of_levels(rt: HostRuntime) {
 fn blames(rt: &impl Abort, levels: &[Level], cause: Cause, place: usize) {
     assert_eq!(rt;
         check_levels(levels, 100, Layer::Content),
-        Err(fault(cause, Layer::Content, place))
+        Err(Fault::new(cause, Layer::Content, place))
     );
     assert_eq!(rt;
         check_levels(levels, 100, Layer::Marker),
-        Err(fault(cause, Layer::Marker, place))
+        Err(Fault::new(cause, Layer::Marker, place))
     );
 }
 
@@ -161,9 +152,9 @@ fn the_area_of_links_only(rt: HostRuntime) -> Result<(), Fail> {
 #[test]
 fn the_numbers_of_causes_and_layers(rt: HostRuntime) {
     for (i, c) in CAUSES.iter().enumerate() {
-        assert_eq!(rt; c.number() as usize, i + 1);
+        assert_eq!(rt; usize::from(u8::from(*c)), i + 1);
     }
     for (i, l) in LAYERS.iter().enumerate() {
-        assert_eq!(rt; l.number() as usize, i + 1);
+        assert_eq!(rt; usize::from(u8::from(*l)), i + 1);
     }
 }

@@ -3,15 +3,14 @@
 
 use anyhow::anyhow;
 use marker::pack::mark_pack;
-use marker::verdict::verdict_line;
+use marker::verdict::Verdict;
 use std::io::Read;
 
 fn main(rt: HostRuntime) -> anyhow::Result<()> {
-    let heap = rt.alloc();
-    let mut bytes = Vec::new(heap);
+    let mut bytes = Vec::new(rt.alloc());
     rt.stdin().read_to_end(&mut bytes)?;
     let verdict = mark_pack(bytes.as_slice());
-    rt.println(verdict_line(heap, verdict)?)?;
+    println!(rt; "{}", Verdict(verdict))?;
     match verdict {
         Ok(_) => Ok(()),
         Err(_) => Err(anyhow!("refused")),

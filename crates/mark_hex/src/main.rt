@@ -3,7 +3,7 @@
 
 use hexadecimal::unhex;
 use marker::pack::mark_pack;
-use marker::verdict::verdict_line;
+use marker::verdict::Verdict;
 use std::io;
 use std::io::{BufRead, BufReader};
 
@@ -11,7 +11,7 @@ fn main(rt: HostRuntime) -> io::Result<()> {
     let heap = rt.alloc();
     for line in BufReader::new(heap, rt.stdin())?.lines(heap) {
         match unhex(heap, line?.as_bytes())? {
-            Some(bytes) => rt.println(verdict_line(heap, mark_pack(bytes.as_slice()))?)?,
+            Some(bytes) => println!(rt; "{}", Verdict(mark_pack(bytes.as_slice())))?,
             None => rt.println("not hex")?,
         }
     }

@@ -8,8 +8,8 @@ use Rattle.packs.specs.Bytes.{Octets, le, field}
 use Rattle.packs.specs.Record.{fits, a_record, record_at}
 use Rattle.packs.specs.Job.{items}
 use Rattle.packs.proofs.Answered.{then_ok, then_made, same_answer}
-use Rattle.packs.proofs.ItemTrips.{length_joined, joined_items, items_joined, number_written, number_read}
-use Rattle.packs.proofs.LittleEndian.{length_le, octets_take, octets_drop}
+use Rattle.packs.proofs.ItemTrips.{length_joined, joined_items, items_joined, number_written}
+use Rattle.packs.proofs.LittleEndian.{length_le, octets_take, octets_drop, field_front}
 use Rattle.packs.proofs.RecordTrips.{begins, body_length, length_record, record_split, record_join, record_rest}
 use Rattle.marker.specs.Records.{chain_record, number_from, numbers, body_of, after, chains_in, chains_end}
 use Rattle.marker.proofs.Numbers.{length_numbers}
@@ -103,7 +103,7 @@ module _ (n at : ℕ) (c rest : List ℕ) (h : n ≤ 256) (w : Written n c) wher
       let l = length_body c in
       let k : length body / 2 ≡ length c = omega arith in
       ap (λ m. items 2 number_from m body) k ∙ ap (items 2 number_from (length c)) (sym (append-nil body)) ∙
-      items_joined 2 number_from (le 2) (λ v. v < 65536) (number_read 2) (length_le 2) c [] w.2
+      items_joined 2 number_from (le 2) (λ v. v < 65536) (field_front 2) (length_le 2) c [] w.2
 
 pub chains_back : (n at : ℕ) (cs : List (List ℕ)) (rest : List ℕ) → n ≤ 256 → AllByRecursion (Written n) cs →
     (chains_end n (length cs) at (flat_map chain_record cs ++ rest) ≡ Ok (at + length (flat_map chain_record cs))) × (chains_in (length cs) (flat_map chain_record cs ++ rest) ≡ cs)

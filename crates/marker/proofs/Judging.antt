@@ -1,9 +1,10 @@
 -- Judging accepts exactly families. Assumes nothing.
-use Rattle.std.proofs.Common.{◌≡◌, ℕ, zero, suc, ◌+◌, ◌-◌, ◌<◌, ◌≤◌, Bool, true, false, cond, T, ◌↔◌, List, [], ◌∷◌, length, get_or, Some, None, Ok, Err, Option, Result, sym, refl, subst, inl, inr, arith}
+use Rattle.std.proofs.Common.{◌≡◌, ℕ, zero, suc, ◌+◌, ◌-◌, ◌<◌, ◌≤◌, Bool, true, false, cond, not, T, ◌↔◌, List, [], ◌∷◌, length, get_or, Some, None, Ok, Err, Option, Result, sym, refl, subst, inl, inr, arith}
 use Rattle.std.specs.List.{AllByRecursion}
 use Rattle.std.proofs.ByRecursion.{All-weaker}
-use Rattle.std.proofs.lemmas.Bool.{false≢true}
 use Rattle.std.proofs.lemmas.Bool.Decides.{nat_tests}
+use Rattle.std.proofs.lemmas.Float.{T_from_true}
+use lib.Ieee.Bits.{is_true}
 use Rattle.families.specs.Chain.{Rises, Chain, Has, has, links}
 use Rattle.families.specs.Family.{Family}
 use Rattle.families.proofs.Rising.{has_means}
@@ -50,10 +51,14 @@ ordered n (x ∷ xs) h k =
     let means = ordered_from n (length (x ∷ xs)) 0 0 x xs h (omega arith) in
     (λ e. let p = means.0 e in (p.1 refl, p.2), λ p. means.1 (omega arith, λ z. p.0, p.1))
 
+finds_first : (b : Bool) (i : ℕ) (r : Option ℕ) → (cond (not b) (Some i) r ≡ None) ↔ ((b ≡ true) × (r ≡ None))
+finds_first true i r = (λ e. (refl, e), λ p. p.1)
+finds_first false i r = (λ e. (cc, cc), λ p. let q = p.0 in cc)
+
 all_pass : {X : Type 0} (test : X → Bool) (i : ℕ) (xs : List X) → (first_failing test i xs ≡ None) ↔ AllByRecursion (λ x. test x ≡ true) xs
 all_pass test i [] = (λ e. tt, λ p. refl)
 all_pass test i (x ∷ xs) =
-    let here = finds_none (test x) i (first_failing test (i + 1) xs) in let rest = all_pass test (i + 1) xs in
+    let here = finds_first (test x) i (first_failing test (i + 1) xs) in let rest = all_pass test (i + 1) xs in
     (λ e. let f = here.0 e in (f.0, rest.0 f.1), λ p. here.1 (p.0, rest.1 p.1))
 
 -- what holds of every number of a list, by the numbers that it has
@@ -72,20 +77,11 @@ nested finer c = (
   λ f. (all_pass (has finer) 0 c).1 (had_all (λ w. has finer w ≡ true) c (λ v h. (has_means finer v).1 (f v h))),
 )
 
--- the two ways to say that a test passes
-holds : (b : Bool) → b ≡ true → T b
-holds true e = tt
-holds false e = absurd (false≢true e)
-
-passes : (b : Bool) → T b → b ≡ true
-passes true t = refl
-passes false t = absurd t
-
 linked : (allowed : ℕ → ℕ → Bool) (c : List ℕ) → (forbidden allowed c ≡ None) ↔ AllByRecursion (λ l. T (allowed l.0 l.1)) (links c)
 linked allowed c =
     let test : ℕ × ℕ → Bool = λ l. allowed l.0 l.1 in (
-      λ e. All-weaker (λ l. test l ≡ true) (λ l. T (test l)) (λ l. holds (test l)) (links c) ((all_pass test 0 (links c)).0 e),
-      λ p. (all_pass test 0 (links c)).1 (All-weaker (λ l. T (test l)) (λ l. test l ≡ true) (λ l. passes (test l)) (links c) p),
+      λ e. All-weaker (λ l. test l ≡ true) (λ l. T (test l)) (λ l. T_from_true (test l)) (links c) ((all_pass test 0 (links c)).0 e),
+      λ p. (all_pass test 0 (links c)).1 (All-weaker (λ l. T (test l)) (λ l. test l ≡ true) (λ l. is_true (test l)) (links c) p),
     )
 
 both_ok : (r : Result (Unit {0}) Fault) (f : Unit {0} → Result (Unit {0}) Fault) → (then r f ≡ Ok tt) ↔ ((r ≡ Ok tt) × (f tt ≡ Ok tt))

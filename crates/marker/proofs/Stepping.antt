@@ -1,7 +1,6 @@
--- From level to level: the record, the chain and the judgement of the next level. Assumes nothing.
-use Rattle.std.proofs.Common.{◌≡◌, ℕ, zero, suc, ◌+◌, ◌-◌, ◌<◌, ◌≤◌, Bool, true, List, [], ◌∷◌, length, get_or, drop, is_ok, Ok, Err, Result, sym, refl, ap, ◌∙◌, ap₂, add-one, arith, length-drop}
-use Rattle.std.proofs.lemmas.List.{drop_more}
-use Rattle.std.proofs.lemmas.Bool.{false≢true}
+-- From level to level: the judgement and the total of the next level. Assumes nothing.
+use Rattle.std.proofs.Common.{◌≡◌, ℕ, zero, suc, ◌+◌, ◌-◌, ◌<◌, Bool, ◌⊎◌, inl, inr, List, [], ◌∷◌, length, get_or, drop, Option, Some, None, Ok, Err, Result, unwrap_or, sym, refl, ap, ◌∙◌, ap₂, add-one, arith, length-drop}
+use Rattle.std.proofs.lemmas.List.{drop-drop, get_or-drop}
 use Rattle.families.specs.Chain.{links}
 use Rattle.families.specs.Family.{cost, total}
 use Rattle.families.specs.Price.{Kind}
@@ -10,92 +9,61 @@ use Rattle.lines.specs.Level.{level, level_of}
 use Rattle.lines.specs.declared.fault.Fault.{Fault}
 use Rattle.lines.specs.declared.level.Level.{Level}
 use Rattle.lines.specs.declared.vertex.Vertex.{Vertex}
-use Rattle.packs.specs.declared.record.Due.{Due}
-use Rattle.packs.specs.declared.record.Due.TheVariants.{Chain}
 use Rattle.packs.specs.Bytes.{field}
-use Rattle.packs.specs.Record.{record_at}
-use Rattle.packs.proofs.RecordTrips.{begins}
 use Rattle.prices.specs.Price.{LinkPrice, price_by}
-use Rattle.marker.specs.Records.{numbers, body_of, chains_in, chains_end, chain_of}
-use Rattle.marker.specs.Judge.{judged_chain, judged_from, judged_chains}
-use Rattle.marker.proofs.Walking.{drop_record, end_further}
+use Rattle.marker.specs.declared.chain.Chain.{Chain}
+use Rattle.marker.specs.Chain.{numbers_of}
+use Rattle.marker.specs.Records.{chains_in, chain_of}
+use Rattle.marker.specs.Judge.{judged_chain, judged_from}
 
-ok_value : {X : Type 0} (r : Result X Fault) → is_ok r ≡ true → (x : X) × (r ≡ Ok x)
-ok_value (Ok x) h = (x, refl)
-ok_value (Err e) h = absurd (false≢true h)
+module _ (allowed : ℕ → ℕ → ℕ → Bool) (n : ℕ) where
+  -- the judgement of the levels after the first k, where the chain before them was `finer`
+  abbrev pub resumed : ℕ → Option Chain → List (List ℕ) → List Level → Result (Unit {0}) Fault
+  resumed k None [] ls = Ok tt
+  resumed k None (c ∷ cs) ls = judged_from allowed n (k + 1) c (c ∷ cs) ls
+  resumed k (Some f) cs ls = judged_from allowed n (k + 1) (numbers_of f) cs ls
 
-before : {X Y : Type 0} (r : Result X Fault) (f : X → Result Y Fault) → is_ok (then r f) ≡ true → is_ok r ≡ true
-before (Ok x) f h = refl
-before (Err e) f h = h
+  resumed_more : (k : ℕ) (finer : Option Chain) (c : Chain) (l : Level) (cs : List (List ℕ)) (ls : List Level) →
+      resumed k finer (numbers_of c ∷ cs) (l ∷ ls) ≡
+      then (judged_chain (allowed l.tolerance) n (k + 1) (numbers_of (unwrap_or finer c)) (numbers_of c)) (λ _. resumed (k + 1) (Some c) cs ls)
+  resumed_more k None c l cs ls = refl
+  resumed_more k (Some f) c l cs ls = refl
 
--- a record that is sound: its body length, and that it lies within the bytes
-sound : (due : Due) (at : ℕ) (rest : List ℕ) → is_ok (record_at due at rest) ≡ true → (record_at due at rest ≡ Ok (field 4 0 rest)) × (6 + field 4 0 rest ≤ length rest)
-sound due at rest h =
-    let v = ok_value (record_at due at rest) h in
-    let b = begins due at rest v.0 v.1 in
-    (v.1 ∙ ap Ok (sym b.size), rw b.size b.inside)
+  -- no chain is left, or no level
+  pub resumed_done : (k : ℕ) (finer : Option Chain) (cs : List (List ℕ)) (ls : List Level) → (cs ≡ []) ⊎ (length ls ≡ 0) → Ok tt ≡ resumed k finer cs ls
+  resumed_done k None [] ls h = refl
+  resumed_done k None (c ∷ cs) [] h = refl
+  resumed_done k (Some f) [] ls h = refl
+  resumed_done k (Some f) (c ∷ cs) [] h = refl
+  resumed_done k finer (c ∷ cs) (l ∷ ls) (inl e) = cc
+  resumed_done k finer (c ∷ cs) (l ∷ ls) (inr e) = absurd (omega arith)
 
--- level i of m is next, and its record is sound
-module _ (n m i at : ℕ) (bs : List ℕ) (h : i < m) (ok : is_ok (chains_end n (m - i) at (drop at bs)) ≡ true) where
-  abbrev size : ℕ
-  size = field 4 0 (drop at bs)
-
-  one_more : m - i ≡ suc (m - (i + 1))
-  one_more = omega arith
-
-  read : (record_at (Chain n) at (drop at bs) ≡ Ok size) × (6 + size ≤ length (drop at bs))
-  read = sound (Chain n) at (drop at bs) (before (record_at (Chain n) at (drop at bs)) _ (rw one_more at ok))
-
-  pub inside : at + 6 + size ≤ length bs
-  inside = let l = length-drop at bs in let p = read.1 in omega arith
-
-  pub next_sound : is_ok (chains_end n (m - (i + 1)) (at + 6 + size) (drop (at + 6 + size) bs)) ≡ true
-  next_sound = rw (end_further n m i at size bs h read.0) at ok
-
-  -- the chains from level i on
-  pub next_chains : chains_in (m - i) (drop at bs) ≡ numbers (body_of (drop at bs)) ∷ chains_in (m - (i + 1)) (drop (at + 6 + size) bs)
-  next_chains =
-      ap (λ k. chains_in k (drop at bs)) one_more
-      ∙ ap (λ cs. numbers (body_of (drop at bs)) ∷ chains_in (m - (i + 1)) cs) (drop_record at size bs)
-
-  module _ (ls : List Level) (hl : i < length ls) (allowed : ℕ → ℕ → ℕ → Bool) (finer : List ℕ) where
-    abbrev judged : Result (Unit {0}) Fault
-    judged = judged_chain (allowed (get_or ls i (level 0 0)).tolerance) n (i + 1) finer (numbers (body_of (drop at bs)))
-
-    opened : judged_from allowed n (i + 1) finer (chains_in (m - i) (drop at bs)) (drop i ls) ≡
-        then judged (λ _. judged_from allowed n (i + 1 + 1) (numbers (body_of (drop at bs))) (chains_in (m - (i + 1)) (drop (at + 6 + size) bs)) (drop (i + 1) ls))
-    opened = ap₂ (judged_from allowed n (i + 1) finer) next_chains (drop_more ls i (level 0 0) hl)
-
-    pub judged_further : Ok tt ≡ judged → judged_from allowed n (i + 1) finer (chains_in (m - i) (drop at bs)) (drop i ls) ≡
-        judged_from allowed n (i + 1 + 1) (numbers (body_of (drop at bs))) (chains_in (m - (i + 1)) (drop (at + 6 + size) bs)) (drop (i + 1) ls)
-    judged_further e = opened ∙ ap (λ r. then r (λ _. judged_from allowed n (i + 1 + 1) (numbers (body_of (drop at bs))) (chains_in (m - (i + 1)) (drop (at + 6 + size) bs)) (drop (i + 1) ls))) (sym e)
-
-    pub judged_refused : (f : Fault) → Err f ≡ judged → judged_from allowed n (i + 1) finer (chains_in (m - i) (drop at bs)) (drop i ls) ≡ Err f
-    judged_refused f e = opened ∙ ap (λ r. then r (λ _. judged_from allowed n (i + 1 + 1) (numbers (body_of (drop at bs))) (chains_in (m - (i + 1)) (drop (at + 6 + size) bs)) (drop (i + 1) ls))) (sym e)
-
-  -- in the list of all chains
-  module _ (cs : List (List ℕ)) (e : chains_in (m - i) (drop at bs) ≡ drop i cs) (hc : i < length cs) where
-    split : numbers (body_of (drop at bs)) ∷ chains_in (m - (i + 1)) (drop (at + 6 + size) bs) ≡ get_or cs i [] ∷ drop (i + 1) cs
-    split = sym next_chains ∙ e ∙ drop_more cs i [] hc
-
-    pub chain_here : numbers (body_of (drop at bs)) ≡ get_or cs i []
-    chain_here = let s = split in cc
-
-    pub chains_further : chains_in (m - (i + 1)) (drop (at + 6 + size) bs) ≡ drop (i + 1) cs
-    chains_further = let s = split in cc
-
--- before the first level, and past the last
-pub judged_start : (allowed : ℕ → ℕ → ℕ → Bool) (n m : ℕ) (bs : List ℕ) (ls : List Level) →
-    judged_from allowed n 1 (numbers (body_of bs)) (chains_in m bs) ls ≡ judged_chains allowed n (chains_in m bs) ls
-judged_start allowed n zero bs ls = refl
-judged_start allowed n (suc m) bs ls = refl
-
-pub judged_end : (allowed : ℕ → ℕ → ℕ → Bool) (n k m i : ℕ) (finer bs : List ℕ) (ls : List Level) → m ≤ i → judged_from allowed n k finer (chains_in (m - i) bs) ls ≡ Ok tt
-judged_end allowed n k m i finer bs ls h = let e : m - i ≡ 0 = omega arith in rw e refl
+  -- the chain of the next level is c, and it is refused
+  pub resumed_refused : (k : ℕ) (finer : Option Chain) (c : Chain) (l : Level) (all cs : List (List ℕ)) (levels ls : List Level) (f : Fault) → all ≡ numbers_of c ∷ cs → levels ≡ l ∷ ls →
+      Err f ≡ judged_chain (allowed l.tolerance) n (k + 1) (numbers_of (unwrap_or finer c)) (numbers_of c) → Err f ≡ resumed k finer all levels
+  resumed_refused k finer c l all cs levels ls f chains rest e =
+      sym (ap₂ (resumed k finer) chains rest ∙ resumed_more k finer c l cs ls ∙ ap (λ s. then s (λ _. resumed (k + 1) (Some c) cs ls)) (sym e))
 
 pub length_chains : (m : ℕ) (bs : List ℕ) → length (chains_in m bs) ≡ m
 length_chains zero bs = refl
 length_chains (suc m) bs = ap suc (length_chains m (drop (6 + field 4 0 bs) bs))
+
+-- what the first of the others says of the list
+pub record Next {A : Type 0} (l : List A) (k : ℕ) (x : A) (xs : List A) : Type 0 where
+  pub inside : k < length l
+  pub here : (d : A) → get_or l k d ≡ x
+  pub others : drop (k + 1) l ≡ xs
+
+pub next_of : {A : Type 0} (l : List A) (k : ℕ) (x : A) (xs : List A) → drop k l ≡ x ∷ xs → Next l k x xs
+next_of l k x xs e =
+    let n = length-drop k l in
+    let m = ap length e in
+    let z : k + 0 ≡ k = omega arith in
+    record {
+      inside = omega arith;
+      here = λ d. sym (ap (λ i. get_or l i d) z) ∙ sym (get_or-drop k l 0 d) ∙ ap (λ ys. get_or ys 0 d) e;
+      others = sym (drop-drop 1 k l) ∙ ap (drop 1) e;
+    }
 
 -- the price of a level's links at its weight
 cost_at : {P : Type 0} (K : Kind P) (link : LinkPrice P) (vs : List Vertex) (ls : List Level) (k w : ℕ) → w ≡ (level_of ls k).weight → (lks : List (ℕ × ℕ)) →
@@ -104,11 +72,11 @@ cost_at K link vs ls k w e [] = refl
 cost_at K link vs ls k w e (l ∷ lks) = ap₂ K.join (ap (link vs l.0 l.1) e) (cost_at K link vs ls k w e lks)
 
 -- the total of one level more
-pub total_more : {P : Type 0} (K : Kind P) (link : LinkPrice P) (vs : List Vertex) (ls : List Level) (cs : List (List ℕ)) (i : ℕ) (chain : List ℕ) → chain ≡ get_or cs i [] →
-    K.join (cost K (λ _ a b. link vs a b (get_or ls i (level 0 0)).weight) 0 (links chain)) (total K (price_by link vs ls) i (chain_of cs)) ≡ total K (price_by link vs ls) (i + 1) (chain_of cs)
-total_more K link vs ls cs i chain e =
+pub total_more : {P : Type 0} (K : Kind P) (link : LinkPrice P) (vs : List Vertex) (ls : List Level) (cs : List (List ℕ)) (i w : ℕ) (chain : List ℕ) → (get_or ls i (level 0 0)).weight ≡ w → get_or cs i [] ≡ chain →
+    K.join (cost K (λ _ a b. link vs a b w) 0 (links chain)) (total K (price_by link vs ls) i (chain_of cs)) ≡ total K (price_by link vs ls) (i + 1) (chain_of cs)
+total_more K link vs ls cs i w chain f e =
     let z : suc i - 1 ≡ i = omega arith in
-    let w : (get_or ls i (level 0 0)).weight ≡ (level_of ls (suc i)).weight = ap (λ k. (get_or ls k (level 0 0)).weight) (sym z) in
-    let c : chain ≡ chain_of cs (suc i) = e ∙ ap (λ k. get_or cs k []) (sym z) in
-    ap (λ x. K.join x (total K (price_by link vs ls) i (chain_of cs))) (cost_at K link vs ls (suc i) _ w (links chain) ∙ ap (λ x. cost K (price_by link vs ls) (suc i) (links x)) c)
+    let v : w ≡ (level_of ls (suc i)).weight = sym f ∙ ap (λ k. (get_or ls k (level 0 0)).weight) (sym z) in
+    let c : chain ≡ chain_of cs (suc i) = sym e ∙ ap (λ k. get_or cs k []) (sym z) in
+    ap (λ x. K.join x (total K (price_by link vs ls) i (chain_of cs))) (cost_at K link vs ls (suc i) w v (links chain) ∙ ap (λ x. cost K (price_by link vs ls) (suc i) (links x)) c)
     ∙ ap (λ k. total K (price_by link vs ls) k (chain_of cs)) (sym (add-one i))

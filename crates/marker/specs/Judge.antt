@@ -1,5 +1,6 @@
 -- Judging chains level by level. Assumes nothing.
 use Rattle.std.specs.Prelude.{ℕ, ◌+◌, Bool, cond, not, ◌&&◌, ◌||◌, List, [], ◌∷◌, length, Some, None, Ok, Err, Option, Result, ◌==◌, nat_le}
+use Rattle.std.specs.List.{position_from}
 use Rattle.families.specs.Chain.{has, links}
 use Rattle.lines.specs.Fault.{fault_at, then}
 use Rattle.lines.specs.declared.fault.Fault.{Fault}
@@ -10,8 +11,7 @@ use Rattle.lines.specs.declared.level.Level.{Level}
 
 -- The first of xs, counted from i, that fails a test.
 abbrev pub first_failing : {X : Type 0} → (X → Bool) → ℕ → List X → Option ℕ
-first_failing test i [] = None
-first_failing test i (x ∷ xs) = cond (test x) (first_failing test (i + 1) xs) (Some i)
+first_failing test i xs = position_from (λ x. not (test x)) i xs
 
 -- Whether the number x may stand at position i of so many: the first is 0, the last is n - 1, and each is above the one before.
 abbrev pub in_order : ℕ → ℕ → ℕ → ℕ → ℕ → Bool

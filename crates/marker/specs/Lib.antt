@@ -1,4 +1,5 @@
 pub mod Records
+pub mod Chain
 pub mod Judge
 pub mod Judged
 pub mod Marker

@@ -1,5 +1,5 @@
 -- The chain and total records of a family pack. Assumes nothing.
-use Rattle.std.specs.Prelude.{ℕ, zero, suc, ◌+◌, ◌-◌, ◌/◌, cond, List, [], ◌∷◌, ◌++◌, length, take, drop, Ok, Err, Result, ◌==◌, slice_index_or}
+use Rattle.std.specs.Prelude.{ℕ, zero, suc, ◌+◌, ◌-◌, ◌/◌, Bool, true, cond, ◌&&◌, List, [], ◌∷◌, ◌++◌, length, take, drop, Ok, Err, Result, ◌==◌, nat_le, slice_index_or}
 use Rattle.std.specs.List.{flat_map}
 use Rattle.lines.specs.Fault.{fault, then}
 use Rattle.lines.specs.declared.fault.Fault.{Fault}
@@ -36,6 +36,11 @@ body_of rest = take (field 4 0 rest) (drop 6 rest)
 
 abbrev pub after : List ℕ → List ℕ
 after rest = drop (6 + field 4 0 rest) rest
+
+-- Whether the m records that bytes begin with lie within the bytes.
+abbrev pub whole : ℕ → List ℕ → Bool
+whole zero rest = true
+whole (suc m) rest = nat_le (6 + field 4 0 rest) (length rest) && whole m (after rest)
 
 -- The chains in the m records that bytes begin with.
 abbrev pub chains_in : ℕ → List ℕ → List (List ℕ)

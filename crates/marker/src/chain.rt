@@ -1,31 +1,68 @@
 // Chains as they lie in the body of a record: numbers of 16 bits each.
-ghost use Rattle.std.specs.Prelude.{◌≡◌, ◌+◌, ◌*◌, ◌<◌, ◌≤◌, length, Decides, slice_index};
-ghost use Rattle.families.specs.Chain.{Has, has, links};
+ghost use Rattle.std.specs.Prelude.{◌≡◌, ◌+◌, ◌<◌, ◌≤◌, length, Decides};
+ghost use Rattle.families.specs.Chain.{Has, has};
+ghost use Rattle.packs.specs.Bytes.{little};
 ghost use Rattle.marker.specs.Records.{numbers};
 ghost use Rattle.marker.specs.Judge.{in_order, disorder, missing};
+ghost use Rattle.marker.specs.Chain.{numbers_of};
 
-use packs::bytes::u16_at;
-
-// The number at position i.
-pub(crate) fn number(body: &[u8], i: usize) -> usize
-    requires { 2 * i + 1 < length body.now }
-    ensures value { result ≡ slice_index (numbers body.now) i }
-    ensures bound { result < 65536 }
-{
-    u16_at(body, 2 * i) as usize
+// A chain: the numbers in the body of a record, two bytes each.
+#[derive(Clone, Copy)]
+pub(crate) struct Chain<'a> {
+    pub(crate) numbers: &'a [[u8; 2]],
 }
 
-// Whether the chain has the vertex v.
-pub(crate) fn has_vertex(body: &[u8], v: usize) -> bool
-    ensures value { result ≡ has (numbers body.now) v }
-    ensures found_exactly { Decides result (Has (numbers body.now) v) }
+// The number that two bytes write.
+pub(crate) fn number(bytes: &[u8; 2]) -> usize
+    ensures value { result ≡ little bytes.now }
+    ensures bound { result < 65536 }
 {
-    for i in 0..body.len() / 2 {
-        if number(body, i) == v {
-            return true;
+    u16::from_le_bytes(*bytes) as usize
+}
+
+impl<'a> Chain<'a> {
+    // The chain in the body of a record.
+    pub(crate) fn of(body: &'a [u8]) -> Chain<'a>
+        ensures { numbers_of result ≡ numbers body.now }
+    {
+        Chain {
+            numbers: body.as_chunks().0,
         }
     }
-    false
+
+    // Whether the chain has the vertex v.
+    pub(crate) fn has_vertex(&self, v: usize) -> bool
+        ensures value { result ≡ has (numbers_of self.now) v }
+        ensures found_exactly { Decides result (Has (numbers_of self.now) v) }
+    {
+        self.numbers.iter().map(number).any(|x| v == x)
+    }
+
+    // The lowest position that is out of order in a chain of a line of n vertices.
+    pub(crate) fn first_disorder(&self, n: usize) -> Option<usize>
+        ensures { result ≡ disorder n (numbers_of self.now) }
+    {
+        let numbers = self.numbers;
+        let mut low = 0;
+        for (i, bytes) in numbers.iter().enumerate() {
+            let v = number(bytes);
+            if !in_order(n, numbers.len(), i, low, v) {
+                return Some(i);
+            }
+            low = v + 1;
+        }
+        None
+    }
+
+    // The first position whose vertex the finer chain has not.
+    pub(crate) fn first_missing(&self, finer: Chain) -> Option<usize>
+        ensures { result ≡ missing (numbers_of finer.entry) (numbers_of self.now) }
+    {
+        self.numbers
+            .iter()
+            .map(number)
+            .position(|v| !finer.has_vertex(v))
+    }
 }
 
 // Whether the number v may stand at position i of so many: the first is 0, the last is n - 1, and none is below `low`.
@@ -34,32 +71,4 @@ fn in_order(n: usize, count: usize, i: usize, low: usize, v: usize) -> bool
     ensures { result ≡ in_order n count i low v }
 {
     v >= low && (i != 0 || v == 0) && (i + 1 != count || v + 1 == n)
-}
-
-// The lowest position that is out of order in a chain of a line of n vertices.
-pub(crate) fn first_disorder(body: &[u8], n: usize) -> Option<usize>
-    ensures { result ≡ disorder n (numbers body.now) }
-{
-    let count = body.len() / 2;
-    let mut low = 0;
-    for i in 0..count {
-        let v = number(body, i);
-        if !in_order(n, count, i, low, v) {
-            return Some(i);
-        }
-        low = v + 1;
-    }
-    None
-}
-
-// The first position whose vertex the finer chain has not.
-pub(crate) fn first_missing(body: &[u8], finer: &[u8]) -> Option<usize>
-    ensures { result ≡ missing (numbers finer.now) (numbers body.now) }
-{
-    for i in 0..body.len() / 2 {
-        if !has_vertex(finer, number(body, i)) {
-            return Some(i);
-        }
-    }
-    None
 }

@@ -1,78 +1,70 @@
 // One chain under its measure, level and price.
-ghost use Rattle.std.specs.Prelude.{◌≡◌, ℕ, length};
+ghost use Rattle.std.specs.Prelude.{◌≡◌, ℕ, ◌+◌, length};
 ghost use Rattle.families.specs.Chain.{links};
 ghost use Rattle.families.specs.Family.{cost};
-ghost use Rattle.marker.specs.Records.{numbers};
-ghost use Rattle.marker.specs.Judge.{forbidden, judged_chain};
+ghost use Rattle.marker.specs.Judge.{forbidden, none_or, judged_chain};
+ghost use Rattle.marker.specs.Chain.{numbers_of};
 
-use crate::chain::{first_disorder, first_missing, number};
+use crate::chain::{Chain, number};
 use lines::fault::{Cause, Fault, Layer};
+use lines::level::Level;
 use lines::line::Line;
 use measures::measure::Measure;
 use prices::price::Price;
+
+// No position is at fault in the chain of level k, or the one found is named.
+fn none_or(found: Option<usize>, cause: Cause, k: usize) -> Result<(), Fault>
+    ensures { result ≡ none_or found cause k }
+{
+    match found {
+        None => Ok(()),
+        Some(spot) => Err(Fault {
+            cause,
+            layer: Layer::Marker,
+            place: k,
+            spot,
+        }),
+    }
+}
 
 // The first position whose link is not allowed at the tolerance t.
 pub(crate) fn first_forbidden<M: Measure>(
     measure: &M,
     line: &Line,
-    body: &[u8],
+    chain: Chain,
     t: u32,
 ) -> Option<usize>
-    ensures { result ≡ forbidden (λ i j. M.Measure.says measure.now line.now.vertices.now i j t) (numbers body.now) }
+    ensures { result ≡ forbidden (λ i j. M.Measure.says measure.now line.now.vertices.now i j t) (numbers_of chain.entry) }
 {
-    for i in 0..(body.len() / 2).saturating_sub(1) {
-        if !measure.allows(line, number(body, i), number(body, i + 1), t) {
-            return Some(i);
-        }
-    }
-    None
+    let from = chain.numbers.iter().map(number);
+    let to = chain.numbers.iter().skip(1).map(number);
+    from.zip(to)
+        .position(|(i, j)| !measure.allows(line, i, j, t))
 }
 
 // Judges the chain of level k under the next finer one: order, then nesting, then links.
 pub(crate) fn judge_chain<M: Measure>(
     measure: &M,
     line: &Line,
-    body: &[u8],
-    finer: &[u8],
+    chain: Chain,
+    finer: Chain,
     k: usize,
     t: u32,
 ) -> Result<(), Fault>
-    ensures { result ≡ judged_chain (λ i j. M.Measure.says measure.now line.now.vertices.now i j t) (length line.now.vertices.now) k (numbers finer.now) (numbers body.now) }
+    ensures { result ≡ judged_chain (λ i j. M.Measure.says measure.now line.now.vertices.now i j t) (length line.now.vertices.now) k (numbers_of finer.entry) (numbers_of chain.entry) }
 {
-    if let Some(spot) = first_disorder(body, line.count()) {
-        return Err(Fault {
-            cause: Cause::Order,
-            layer: Layer::Marker,
-            place: k,
-            spot,
-        });
-    }
-    if let Some(spot) = first_missing(body, finer) {
-        return Err(Fault {
-            cause: Cause::Nesting,
-            layer: Layer::Marker,
-            place: k,
-            spot,
-        });
-    }
-    if let Some(spot) = first_forbidden(measure, line, body, t) {
-        return Err(Fault {
-            cause: Cause::Link,
-            layer: Layer::Marker,
-            place: k,
-            spot,
-        });
-    }
-    Ok(())
+    none_or(chain.first_disorder(line.count()), Cause::Order, k)?;
+    none_or(chain.first_missing(finer), Cause::Nesting, k)?;
+    none_or(first_forbidden(measure, line, chain, t), Cause::Link, k)
 }
 
 // The prices of the chain's links at a weight, joined.
-pub(crate) fn chain_cost<P: Price>(line: &Line, body: &[u8], weight: u32) -> P
-    ensures { result ≡ cost P.Price.kind (λ _ i j. P.Price.link line.now.vertices.now i j weight) 0 (links (numbers body.now)) }
+pub(crate) fn chain_cost<P: Price>(line: &Line, chain: Chain, weight: u32) -> P
+    ensures { result ≡ cost P.Price.kind (λ _ i j. P.Price.link line.now.vertices.now i j weight) 0 (links (numbers_of chain.entry)) }
 {
     let mut sum = P::neutral();
-    for i in (0..(body.len() / 2).saturating_sub(1)).rev() {
-        sum = P::of_link(line, number(body, i), number(body, i + 1), weight).join(sum);
+    for link in chain.numbers.windows(2).rev() {
+        sum = P::of_link(line, number(&link[0]), number(&link[1]), weight).join(sum);
     }
     sum
 }

@@ -1,5 +1,5 @@
 // The whole path from the bytes of a family pack to its verdict.
-ghost use Rattle.std.specs.Prelude.{◌≡◌, ◌≤◌, length, drop};
+ghost use Rattle.std.specs.Prelude.{◌≡◌, ◌≤◌};
 ghost use Rattle.packs.specs.Kind.{measure_largest};
 ghost use Rattle.marker.specs.Pack.{measure_says, form_marked, place_marked, pack_marked, MarksPacks};
 
@@ -20,6 +20,7 @@ use prices::count_then_area::CountThenArea;
 use prices::price::Price;
 
 // Marks under the price with its number; the answer is the form of the total.
+// A `match` turns the number into a type: no `dyn Price` can be, for its functions take no `self` and answer `Self`.
 fn mark_priced<M: Measure>(
     measure: &M,
     price: PriceKind,
@@ -27,21 +28,18 @@ fn mark_priced<M: Measure>(
     levels: &[Level],
     records: &[u8],
 ) -> Result<(u32, u64), Fault>
-    ensures { result ≡ form_marked price M.Measure.largest (M.Measure.says measure.now) line.now.vertices.now levels.now records.now }
+    ensures { result ≡ form_marked price M.Measure.LARGEST (M.Measure.says measure.now) line.now.vertices.now levels.now records.now }
 {
     match price {
-        PriceKind::Count => {
-            let total = mark::<M, Count>(measure, line, levels, records)?;
-            Ok(total.form())
-        }
+        PriceKind::Count => Ok(mark::<M, Count>(measure, line, levels, records)?.form()),
         PriceKind::CountThenArea => {
-            let total = mark::<M, CountThenArea>(measure, line, levels, records)?;
-            Ok(total.form())
+            Ok(mark::<M, CountThenArea>(measure, line, levels, records)?.form())
         }
     }
 }
 
 // Marks under the measure and the price with their numbers.
+// A `match` here too: no `dyn Measure` can be, for it has a constant, and a trait for what is done under a measure is longer.
 pub fn mark_numbered(
     measure: MeasureKind,
     price: PriceKind,
@@ -70,14 +68,6 @@ fn mark_job(place: &Place, job: Job, records: &[u8]) -> Result<(u32, u64), Fault
     mark_numbered(job.measure, job.price, &line, &place.levels[0..m], records)
 }
 
-// What comes from a place on.
-fn rest(bytes: &[u8], at: usize) -> &[u8]
-    requires { at ≤ length bytes.now }
-    ensures { result.now ≡ drop at bytes.now }
-{
-    &bytes[at..]
-}
-
 // Marks a family pack: answers the form of its total, or the first fault.
 pub fn mark_pack(bytes: &[u8]) -> Result<(u32, u64), Fault>
     ensures answer { result ≡ pack_marked bytes.now }
@@ -85,5 +75,5 @@ pub fn mark_pack(bytes: &[u8]) -> Result<(u32, u64), Fault>
 {
     let mut place = Place::blank();
     let (job, end) = read_family_head(bytes, &mut place)?;
-    mark_job(&place, job, rest(bytes, end))
+    mark_job(&place, job, &bytes[end..])
 }

@@ -1,13 +1,46 @@
 // The chain and total records of a family pack.
-ghost use Rattle.std.specs.Prelude.{◌≡◌, ◌+◌, ◌≤◌, length, drop, IfOk};
-ghost use Rattle.packs.specs.Bytes.{field};
-ghost use Rattle.marker.specs.Records.{body_of, chains_end, structure};
+ghost use Rattle.std.specs.Prelude.{◌≡◌, ◌≤◌, true, length, IfOk};
+ghost use Rattle.std.specs.Iterator.{YieldsFirstBy, at_most};
+ghost use Rattle.marker.specs.Chain.{numbers_of};
+ghost use Rattle.marker.specs.Records.{whole, chains_in, chains_end, structure};
 
+use crate::chain::Chain;
 use lines::fault::{Cause, Fault, Layer};
 use packs::bytes::u32_at;
 use packs::record::{Due, body_length};
 
+// So many chain records that follow one another, each whole.
+#[derive(Clone, Copy)]
+pub(crate) struct Chains<'a> {
+    pub(crate) rest: &'a [u8],
+    pub(crate) left: usize,
+    ghost inside: { whole left rest.now ≡ true },
+}
+
+// The chains, one by one.
+impl<'a> Iterator for Chains<'a> {
+    type Item = Chain<'a>;
+
+    ghost next_gives = { YieldsFirstBy numbers_of (λ chains. chains_in chains.left chains.rest.now) };
+
+    ghost remaining = { λ chains. at_most chains.left };
+
+    fn next(&mut self) -> Option<Chain<'a>> {
+        if self.left == 0 {
+            return None;
+        }
+        let end = 6 + u32_at(self.rest, 0) as usize;
+        let chain = Chain::of(&self.rest[6..end]);
+        *self = Chains {
+            rest: &self.rest[end..],
+            left: self.left - 1,
+        };
+        Some(chain)
+    }
+}
+
 // The structure of the chain records of m levels: where they end.
+// `_k` counts the records and indexes nothing; `Chains` cannot walk here, where no record is known to be whole yet.
 fn chains_end(records: &[u8], n: usize, m: usize) -> Result<usize, Fault>
     ensures answer { result ≡ chains_end n m 0 records.now }
     ensures within { IfOk result (λ stop. stop ≤ length records.now) }
@@ -22,27 +55,13 @@ fn chains_end(records: &[u8], n: usize, m: usize) -> Result<usize, Fault>
 
 // The structure of all records of a family of m levels; it answers where the total's record starts.
 pub(crate) fn structure(records: &[u8], n: usize, m: usize) -> Result<usize, Fault>
-    ensures { result ≡ structure n m records.now }
+    ensures answer { result ≡ structure n m records.now }
+    ensures whole { IfOk result (λ _. whole m records.now ≡ true) }
 {
     let stop = chains_end(records, n, m)?;
     body_length(records, stop, Due::Total)?;
     if stop + 18 != records.len() {
-        return Err(Fault {
-            cause: Cause::LeftOver,
-            layer: Layer::Pack,
-            place: stop + 18,
-            spot: 0,
-        });
+        return Err(Fault::new(Cause::LeftOver, Layer::Pack, stop + 18));
     }
     Ok(stop)
-}
-
-// The body of the record at a place.
-pub(crate) fn body_at(records: &[u8], at: usize) -> &[u8]
-    requires { at + 6 + field 4 0 (drop at records.now) ≤ length records.now }
-    ensures value { result.now ≡ body_of (drop at records.now) }
-    ensures size { length result.now ≡ field 4 0 (drop at records.now) }
-{
-    let size = u32_at(records, at) as usize;
-    &records[at + 6..at + 6 + size]
 }

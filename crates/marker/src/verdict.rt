@@ -1,51 +1,38 @@
 // Verdicts as text.
-ghost use Rattle.std.specs.Prelude.{◌≡◌, IfOk, string_bytes};
-ghost use Rattle.marker.specs.Verdict.{valid_text, numbered_text, refused_text, verdict_text};
+ghost use Rattle.std.specs.Prelude.{◌≡◌, Some, IfOk, string_bytes};
+ghost use Rattle.lines.specs.Fault.{refused_text};
+ghost use Rattle.marker.specs.Verdict.{verdict_text};
 
 use lines::fault::Fault;
 use std::alloc::{AllocError, Global};
+use std::fmt;
 
-// The line of a valid family with the form of its total.
-fn valid_line(heap: Global, form: (u32, u64)) -> Result<String, AllocError>
-    ensures { IfOk result (λ s. string_bytes s ≡ valid_text form) }
-{
-    let first = form.0;
-    let second = form.1;
-    format!(in heap; "valid {first} {second}")
-}
+// The verdict on a family: the form of its total, or the first fault.
+#[derive(Clone, Copy)]
+pub struct Verdict(pub Result<(u32, u64), Fault>);
 
-// The line of a refusal with these numbers.
-fn numbered_line(
-    heap: Global,
-    number: u8,
-    layer: u8,
-    place: usize,
-    spot: usize,
-) -> Result<String, AllocError>
-    ensures { IfOk result (λ s. string_bytes s ≡ numbered_text number layer place spot) }
-{
-    format!(in heap; "refused {number} layer {layer} place {place} spot {spot}")
+// The line of a verdict.
+impl fmt::Display for Verdict {
+    ghost output = { λ verdict. Some (verdict_text verdict.0) };
+
+    fn fmt<W: fmt::Write>(&self, f: &mut fmt::Formatter<W>) -> fmt::Result {
+        match self.0 {
+            Ok((first, second)) => write!(f, "valid {first} {second}"),
+            Err(fault) => write!(f, "{fault}"),
+        }
+    }
 }
 
 // The line of a refusal.
 pub fn refusal_line(heap: Global, fault: Fault) -> Result<String, AllocError>
     ensures { IfOk result (λ s. string_bytes s ≡ refused_text fault) }
 {
-    numbered_line(
-        heap,
-        fault.cause.number(),
-        fault.layer.number(),
-        fault.place,
-        fault.spot,
-    )
+    fault.to_string(heap)
 }
 
 // The line of a verdict.
 pub fn verdict_line(heap: Global, verdict: Result<(u32, u64), Fault>) -> Result<String, AllocError>
     ensures { IfOk result (λ s. string_bytes s ≡ verdict_text verdict) }
 {
-    match verdict {
-        Ok(form) => valid_line(heap, form),
-        Err(fault) => refusal_line(heap, fault),
-    }
+    Verdict(verdict).to_string(heap)
 }

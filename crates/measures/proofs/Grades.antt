@@ -1,10 +1,14 @@
 -- The first level that passes a test. Assumes nothing.
-use Rattle.std.proofs.Common.{◌≡◌, ℕ, zero, suc, ◌+◌, ◌-◌, ◌<◌, ◌≤◌, Bool, true, false, cond, List, length, get_or, sym, refl, ap, ◌∙◌, add-one, arith}
-use Rattle.std.proofs.lemmas.Bool.{cond-true, cond-false}
+use Rattle.std.proofs.Common.{◌≡◌, ℕ, zero, suc, ◌+◌, ◌-◌, ◌<◌, ◌≤◌, Bool, true, false, cond, ◌&&◌, leb, nat_le, ◌⊎◌, inl, inr, List, [], ◌∷◌, map, filter, length, get_or, Some, None, Option, sym, refl, ap, ◌∙◌, subst, add-one, arith}
+use Rattle.std.specs.List.{All, AllWithin, HoldsAt}
+use Rattle.std.specs.Option.{MatchOption, option_map, unwrap_or}
+use Rattle.std.proofs.lemmas.Bool.{cond-true, cond-false, and_from, le-leb, cases_lt}
+use Rattle.std.proofs.lemmas.Bool.Decides.{nat_tests}
 use Rattle.families.specs.Least.{first}
+use Rattle.families.proofs.Next.{first_range}
 use Rattle.lines.specs.declared.level.Level.{Level}
 use Rattle.lines.specs.Level.{level, level_of}
-use Rattle.measures.specs.Measure.{first_level}
+use Rattle.measures.specs.Measure.{first_level, level_in, first_passing}
 
 -- the test of level k
 abbrev passed : (ℕ → Bool) → List Level → ℕ → Bool
@@ -53,3 +57,63 @@ first_same f g same (suc more) v = ap (λ x. cond x v (first f (suc v) more)) (s
 -- tests with the same answers
 pub same_level : (f g : ℕ → Bool) (ls : List Level) → ((t : ℕ) → f t ≡ g t) → first_level f ls ≡ first_level g ls
 same_level f g ls same = first_same (passed f ls) (passed g ls) (λ k. same (level_of ls k).tolerance) (length ls) 1
+
+-- the loop over the levels has come to level k + 1 when those before it do not pass
+refused_upto : (passes : ℕ → Bool) (ls : List Level) (k : ℕ) → k ≤ length ls → ((h : ℕ) → h < k → passes (get_or ls h (level 0 0)).tolerance ≡ false) → Refused passes ls k
+refused_upto passes ls zero b fails = let e : length ls - 0 ≡ length ls = omega arith in ap (first (passed passes ls) 1) (sym e)
+refused_upto passes ls (suc k) b fails =
+    subst (Refused passes ls) (add-one k)
+    (level_refuses passes ls k (omega (arith, b)) (refused_upto passes ls k (omega (arith, b)) (λ h l. fails h (omega (arith, l)))) (sym (fails k (omega arith))))
+
+-- a grade as a level
+in_levels : (m g : ℕ) → 1 ≤ g → g ≤ m → level_in m g ≡ Some g
+in_levels m g a b = cond-true _ _ _ (and_from _ _ (le-leb 1 g a) (le-leb g m b))
+
+-- level k + 1 passes, and none before it
+first_is : (passes : ℕ → Bool) (ls : List Level) (k : ℕ) → k < length ls → passes (get_or ls k (level 0 0)).tolerance ≡ true →
+    ((h : ℕ) → h < k → passes (get_or ls h (level 0 0)).tolerance ≡ false) → Some (k + 1) ≡ first_passing passes ls
+first_is passes ls k h y fails =
+    let e = level_allows passes ls k h (refused_upto passes ls k (omega (arith, h)) fails) (sym y) in
+    sym (in_levels (length ls) (k + 1) (omega arith) (omega (arith, h))) ∙ ap (level_in (length ls)) e
+
+-- no level passes
+pub none_is : (passes : ℕ → Bool) (ls : List Level) → ((k : ℕ) → k < length ls → passes (get_or ls k (level 0 0)).tolerance ≡ false) →
+    None ≡ first_passing passes ls
+none_is passes ls fails =
+    let e = all_refuse passes ls fails in
+    let above : (leb 1 (length ls + 1) && leb (length ls + 1) (length ls)) ≡ false = grind (arith, nat_tests) in
+    sym (cond-false _ _ _ above) ∙ ap (level_in (length ls)) e
+
+-- what `position` finds, as a level
+pub found_first : (passes : ℕ → Bool) (ls : List Level) (r : Option ℕ) →
+    MatchOption r (AllWithin (λ l. passes l.tolerance ≡ false) ls 0 (length ls)) (λ k. (k < length ls) × HoldsAt (λ l. passes l.tolerance ≡ true) ls k × AllWithin (λ l. passes l.tolerance ≡ false) ls 0 k) →
+    option_map (λ k. k + 1) r ≡ first_passing passes ls
+found_first passes ls None f = none_is passes ls (λ k h. f k (level 0 0) (omega arith) h)
+found_first passes ls (Some k) f = first_is passes ls k f.0 (f.1 (level 0 0)) (λ h l. f.2 h (level 0 0) (omega arith) l)
+
+tail_of : (P : ℕ → Type 0) (x : Bool) (y : ℕ) (ys : List ℕ) → All P (cond x (y ∷ ys) ys) → All P ys
+tail_of P true y ys c = λ i d l. c (suc i) d (omega (arith, l))
+tail_of P false y ys c = c
+
+-- the widest tolerance up to a largest: no level's that is up to it is wider
+pub covers_each : (largest most : ℕ) (ls : List Level) → All (λ t. t ≤ most) (filter (λ t. nat_le t largest) (map (λ (l : Level). l.tolerance) ls)) →
+    (k : ℕ) → k < length ls → (get_or ls k (level 0 0)).tolerance ≤ largest → (get_or ls k (level 0 0)).tolerance ≤ most
+covers_each largest most [] covers k h b = absurd (omega (arith, h))
+covers_each largest most (l ∷ ls) covers zero h b =
+    subst (λ x. All (λ t. t ≤ most) (cond x (l.tolerance ∷ filter (λ t. nat_le t largest) (map (λ (l : Level). l.tolerance) ls)) (filter (λ t. nat_le t largest) (map (λ (l : Level). l.tolerance) ls))))
+    (le-leb l.tolerance largest b) covers 0 0 (omega arith)
+covers_each largest most (l ∷ ls) covers (suc k) h b =
+    covers_each largest most ls (tail_of (λ t. t ≤ most) (nat_le l.tolerance largest) l.tolerance _ covers) k (omega (arith, h)) b
+
+-- the first level, or else one more than there are levels, is the grade
+pub grade_back : (passes : ℕ → Bool) (ls : List Level) → unwrap_or (first_passing passes ls) (length ls + 1) ≡ first_level passes ls
+grade_back passes ls = go (cases_lt (length ls) (first_level passes ls))
+  where
+    r : (1 ≤ first_level passes ls) × (first_level passes ls ≤ 1 + length ls)
+    r = first_range (passed passes ls) 1 (length ls)
+
+    go : (length ls < first_level passes ls) ⊎ (first_level passes ls ≤ length ls) → unwrap_or (first_passing passes ls) (length ls + 1) ≡ first_level passes ls
+    go (inl above) =
+        let out : (leb 1 (first_level passes ls) && leb (first_level passes ls) (length ls)) ≡ false = grind (arith, nat_tests) in
+        ap (λ o. unwrap_or o (length ls + 1)) (cond-false _ _ _ out) ∙ omega (arith, r.1, above)
+    go (inr upto) = ap (λ o. unwrap_or o (length ls + 1)) (in_levels (length ls) (first_level passes ls) r.0 upto)

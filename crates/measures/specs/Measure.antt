@@ -1,5 +1,5 @@
 -- What every measure keeps. Assumes nothing.
-use Rattle.std.specs.Prelude.{◌≡◌, ℕ, ◌+◌, ◌<◌, ◌≤◌, Bool, true, List, length}
+use Rattle.std.specs.Prelude.{◌≡◌, ℕ, ◌+◌, ◌<◌, ◌≤◌, Bool, true, cond, ◌&&◌, List, length, Some, None, Option, nat_le}
 use Rattle.lines.specs.Line.{Lawful}
 use Rattle.lines.specs.Level.{level_of}
 use Rattle.lines.specs.declared.vertex.Vertex.{Vertex}
@@ -30,3 +30,15 @@ first_level passes ls = first (λ k. passes (level_of ls k).tolerance) 1 (length
 -- The grade of the link i → j: the first level that allows it, or one more than there are levels when none does.
 abbrev pub grade : Answer → List Vertex → List Level → ℕ → ℕ → ℕ
 grade says vs ls i j = first (λ k. allowed_by says vs ls k i j) 1 (length ls)
+
+-- A grade as a level: none unless it is one of m levels.
+abbrev pub level_in : ℕ → ℕ → Option ℕ
+level_in m g = cond (nat_le 1 g && nat_le g m) (Some g) None
+
+-- The first level whose tolerance passes the test; none when none does.
+abbrev pub first_passing : (ℕ → Bool) → List Level → Option ℕ
+first_passing passes ls = level_in (length ls) (first_level passes ls)
+
+-- The first level that allows the link i → j; none when no level does.
+abbrev pub first_allowing : Answer → List Vertex → List Level → ℕ → ℕ → Option ℕ
+first_allowing says vs ls i j = level_in (length ls) (grade says vs ls i j)

@@ -8,7 +8,7 @@ use Rattle.lines.specs.declared.vertex.Vertex.{Vertex}
 use Rattle.lines.specs.Vertex.{origin}
 use Rattle.lines.specs.Line.{is_link}
 use Rattle.measures.specs.Measure.{Rules}
-use Rattle.measures.specs.Plane.{every, each_skipped}
+use Rattle.measures.specs.Plane.{every, each_skipped, all_near}
 use Rattle.measures.specs.Rising.{Rises}
 
 every_rises : (f g : ℕ → Bool) (k n : ℕ) → ((i : ℕ) → f i ≡ true → g i ≡ true) → every f k n ≡ true → every g k n ≡ true
@@ -42,17 +42,23 @@ pub test_is : (near : Vertex → Vertex → Vertex → ℕ → Bool) (vs : List 
     p ≡ slice_index_or vs i origin → q ≡ slice_index_or vs j origin → u ≡ t → b ≡ near p q (slice_index_or vs k origin) u → tested near vs i j t k ≡ b
 test_is near vs i j t k p q u b ep eq eu e = cc
 
--- the loop over the skipped vertices has come to k, and all before it passed
+-- the pass over the skipped vertices has come to k, and all before it are near
 abbrev pub Passed : (Vertex → Vertex → Vertex → ℕ → Bool) → List Vertex → ℕ → ℕ → ℕ → ℕ → Type 0
 Passed near vs i j t k = every (tested near vs i j t) (i + 1) (k - (i + 1)) ≡ true
 
-pub vertex_fails : (near : Vertex → Vertex → Vertex → ℕ → Bool) (largest : ℕ) (vs : List Vertex) (i j t k : ℕ) → i + 1 ≤ k → k < j →
-    tested near vs i j t k ≡ false → each_skipped largest near vs i j t ≡ false
-vertex_fails near largest vs i j t k h l y =
+-- one that fails: not all are near
+pub vertex_fails : (near : Vertex → Vertex → Vertex → ℕ → Bool) (vs : List Vertex) (i j t k : ℕ) → i + 1 ≤ k → k < j →
+    tested near vs i j t k ≡ false → all_near near vs i j t ≡ false
+vertex_fails near vs i j t k h l y =
     let d : k ≡ (i + 1) + (k - (i + 1)) = omega arith in
-    let f = every_fails (tested near vs i j t) (i + 1) (j - (i + 1)) (k - (i + 1)) (omega arith) (subst (λ (x : ℕ). tested near vs i j t x ≡ false) d y) in
-    and_right (is_link vs i j) _ (and_right (nat_le t largest) _ f)
+    every_fails (tested near vs i j t) (i + 1) (j - (i + 1)) (k - (i + 1)) (omega arith) (subst (λ (x : ℕ). tested near vs i j t x ≡ false) d y)
 
+-- and the link is refused
+pub link_fails : (near : Vertex → Vertex → Vertex → ℕ → Bool) (largest : ℕ) (vs : List Vertex) (i j t : ℕ) →
+    all_near near vs i j t ≡ false → each_skipped largest near vs i j t ≡ false
+link_fails near largest vs i j t f = and_right (is_link vs i j) _ (and_right (nat_le t largest) _ f)
+
+-- one more that passes
 pub vertex_passes : (near : Vertex → Vertex → Vertex → ℕ → Bool) (vs : List Vertex) (i j t k : ℕ) → i + 1 ≤ k →
     Passed near vs i j t k → tested near vs i j t k ≡ true → Passed near vs i j t (k + 1)
 vertex_passes near vs i j t k h p y = every_more (tested near vs i j t) (i + 1) k h p y

@@ -2,7 +2,7 @@ ghost use Rattle.std.specs.Prelude.{◌≡◌, ◌&&◌, nat_le};
 ghost use Rattle.measures.specs.Area.{area, area_largest};
 ghost use Rattle.measures.specs.Areas.{area_rules};
 
-use crate::measure::Measure;
+use crate::measure::{Measure, first_passing};
 use lines::area::link_area;
 use lines::level::Level;
 use lines::line::Line;
@@ -21,34 +21,22 @@ fn within(size: u64, t: u32) -> bool
 impl Measure for Area {
     const LARGEST: u32 = 2147483647;
 
-    ghost largest = { area_largest };
+    ghost LARGEST = { area_largest };
 
     ghost says = { λ _. area };
 
     ghost rules = { λ m. area_rules };
 
-    fn largest_tolerance() -> u32 {
-        Self::LARGEST
-    }
-
     fn allows(&self, line: &Line, i: usize, j: usize, t: u32) -> bool {
-        if i >= j || j >= line.count() || t > Self::LARGEST {
-            return false;
-        }
-        link_area(line, i, j) <= t as u64
+        line.is_link(i, j) && within(link_area(line, i, j), t)
     }
 
     // The area is reckoned once, for all levels.
-    fn grade(&self, line: &Line, levels: &[Level], i: usize, j: usize) -> usize {
-        if i >= j || j >= line.count() {
-            return levels.len() + 1;
+    fn first_level(&self, line: &Line, levels: &[Level], i: usize, j: usize) -> Option<usize> {
+        if !line.is_link(i, j) {
+            return None;
         }
         let area = link_area(line, i, j);
-        for (k, level) in levels.iter().enumerate() {
-            if within(area, level.tolerance) {
-                return k + 1;
-            }
-        }
-        levels.len() + 1
+        first_passing(levels, |t| within(area, t))
     }
 }

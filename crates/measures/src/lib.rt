@@ -8,7 +8,6 @@ pub mod measure;
 mod nearness;
 mod plane;
 pub mod segment;
-mod span;
 pub mod strip;
 #[cfg(test)]
 mod tests;

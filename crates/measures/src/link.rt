@@ -1,82 +1,79 @@
-// A link with its tolerance, and the tests that a skipped vertex meets.
-ghost use Rattle.std.specs.Prelude.{◌≡◌, ◌*◌, ◌≤◌, pos, ◌-ℤ◌, ◌*ℤ◌, int_le};
-ghost use Rattle.lines.specs.Vertex.{InRange};
+// A link, and how far a point lies from its ends and off its straight line.
+ghost use Rattle.std.specs.Prelude.{◌≡◌, ◌*◌, ◌≤◌, ◌-ℤ◌, unsigned_abs, true, false, slice_index_or, IfSome, IfNone};
+ghost use Rattle.lines.specs.Vertex.{origin};
+ghost use Rattle.lines.specs.Line.{is_link};
 ghost use Rattle.measures.specs.Plane.{dot, cross, squared};
 
-use crate::plane::{Way, cross, dot, square};
-use lines::vertex::Vertex;
+use crate::apart::Apart;
+use crate::plane::{Point, Way};
+use lines::line::Line;
 
-// The link p → q and the tolerance t, with the numbers that are the same for each skipped vertex.
+// The link p → q, with the numbers that are the same for each skipped vertex.
 #[derive(Clone, Copy)]
 pub(crate) struct Link {
-    p: Vertex,
-    q: Vertex,
-    t: u32,
+    pub(crate) p: Point,
+    pub(crate) q: Point,
     way: Way,
-    // the squares of the length of the link and of the tolerance, and their product
+    // the square of the length
     pub(crate) length: i64,
-    reach: i64,
-    limit: i64,
-    ghost inside: { InRange p × InRange q },
-    ghost leads: { (way.x ≡ q.x -ℤ p.x) × (way.y ≡ q.y -ℤ p.y) },
-    ghost measured: { length ≡ squared p q },
-    ghost reaches: { reach ≡ pos (t * t) },
-    ghost limited: { limit ≡ pos (t * t) *ℤ squared p q },
+    ghost leads: { (way.x ≡ q.vertex.x -ℤ p.vertex.x) × (way.y ≡ q.vertex.y -ℤ p.vertex.y) },
+    ghost measured: { length ≡ squared p.vertex q.vertex },
+    ghost short: { unsigned_abs length ≤ 2147352578 },
 }
 
 impl Link {
-    // The link p → q at the tolerance t.
-    pub(crate) fn new(p: Vertex, q: Vertex, t: u32) -> Link
-        requires { (InRange p) × ((InRange q) × (t ≤ 32768)) }
+    // The link p → q.
+    pub(crate) fn new(p: Point, q: Point) -> Link
         ensures p { result.p ≡ p }
         ensures q { result.q ≡ q }
-        ensures t { result.t ≡ t }
     {
         let way = Way::between(p, q);
-        let length = dot(way, way);
-        let reach = t as i64 * t as i64;
         Link {
             p,
             q,
-            t,
             way,
-            length,
-            reach,
-            limit: reach * length,
+            length: way.dot(way),
+        }
+    }
+
+    // The link i → j of a line; none for a pair that is no link.
+    pub(crate) fn of_line(line: &Line, i: usize, j: usize) -> Option<Link>
+        ensures none { IfNone result (false ≡ is_link line.now.vertices.now i j) }
+        ensures link { IfSome result (λ l. true ≡ is_link line.now.vertices.now i j) }
+        ensures start { IfSome result (λ l. l.p.vertex ≡ slice_index_or line.now.vertices.now i origin) }
+        ensures end { IfSome result (λ l. l.q.vertex ≡ slice_index_or line.now.vertices.now j origin) }
+    {
+        if !line.is_link(i, j) {
+            return None;
+        }
+        let vertices = line.vertices();
+        Some(Link::new(Point::new(vertices[i]), Point::new(vertices[j])))
+    }
+
+    // How far apart from the link a vertex may lie at the tolerance t.
+    pub(crate) fn permits(self, t: u32) -> Apart
+        requires { t ≤ 32768 }
+        ensures far { result.far ≡ t * t }
+        ensures off { result.off ≡ t * t * unsigned_abs (squared self.p.vertex self.q.vertex) }
+    {
+        let reach = t as u64 * t as u64;
+        Apart {
+            far: reach,
+            off: reach * self.length.unsigned_abs(),
         }
     }
 
     // How far along the link v lies, times the length of the link; below 0 where v lies behind p.
-    pub(crate) fn along(self, v: Vertex) -> i64
-        requires { InRange v }
-        ensures { result ≡ dot self.p self.q v }
+    pub(crate) fn along(self, v: Point) -> i64
+        ensures { result ≡ dot self.p.vertex self.q.vertex v.vertex }
     {
-        dot(self.way, Way::between(self.p, v))
+        self.way.dot(Way::between(self.p, v))
     }
 
-    // Whether v lies within the tolerance of p.
-    pub(crate) fn near_start(self, v: Vertex) -> bool
-        requires { InRange v }
-        ensures { result ≡ int_le (squared self.p v) (pos (self.t * self.t)) }
+    // The squared cross product of the link and the way p → v.
+    pub(crate) fn off_line(self, v: Point) -> u64
+        ensures { result ≡ unsigned_abs (cross self.p.vertex self.q.vertex v.vertex) * unsigned_abs (cross self.p.vertex self.q.vertex v.vertex) }
     {
-        let to_v = Way::between(self.p, v);
-        dot(to_v, to_v) <= self.reach
-    }
-
-    // Whether v lies within the tolerance of q.
-    pub(crate) fn near_end(self, v: Vertex) -> bool
-        requires { InRange v }
-        ensures { result ≡ int_le (squared self.q v) (pos (self.t * self.t)) }
-    {
-        let to_v = Way::between(self.q, v);
-        dot(to_v, to_v) <= self.reach
-    }
-
-    // Whether v lies within the tolerance of the straight line through p and q.
-    pub(crate) fn near_line(self, v: Vertex) -> bool
-        requires { InRange v }
-        ensures { result ≡ int_le (cross self.p self.q v *ℤ cross self.p self.q v) (pos (self.t * self.t) *ℤ squared self.p self.q) }
-    {
-        square(cross(self.way, Way::between(self.p, v))) <= self.limit
+        self.way.cross_squared(Way::between(self.p, v))
     }
 }

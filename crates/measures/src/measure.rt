@@ -1,5 +1,5 @@
-ghost use Rattle.std.specs.Prelude.{◌≡◌, ℕ};
-ghost use Rattle.measures.specs.Measure.{Answer, Rules, grade};
+ghost use Rattle.std.specs.Prelude.{◌≡◌, ℕ, Bool};
+ghost use Rattle.measures.specs.Measure.{Answer, Rules, first_passing, first_allowing};
 
 use lines::level::Level;
 use lines::line::Line;
@@ -9,29 +9,29 @@ pub trait Measure {
     // The largest tolerance; a question with a larger one gets no.
     const LARGEST: u32;
 
-    ghost largest: { ℕ };
+    ghost LARGEST: { ℕ };
 
     ghost says: { Self → Answer };
-
-    // The largest tolerance, as a call that proofs can speak of.
-    fn largest_tolerance() -> u32
-        ensures { result ≡ largest };
 
     // Whether the link from i to j is allowed at the tolerance t.
     fn allows(&self, line: &Line, i: usize, j: usize, t: u32) -> bool
         ensures { result ≡ says self.now line.now.vertices.now i j t };
 
-    // The grade of the link from i to j: the first of the levels that allows it, or one more than there are levels.
-    fn grade(&self, line: &Line, levels: &[Level], i: usize, j: usize) -> usize
-        ensures { result ≡ grade (says self.now) line.now.vertices.now levels.now i j }
+    // The first of the levels that allows the link from i to j; none where no level does.
+    fn first_level(&self, line: &Line, levels: &[Level], i: usize, j: usize) -> Option<usize>
+        ensures { result ≡ first_allowing (says self.now) line.now.vertices.now levels.now i j }
     {
-        for (k, level) in levels.iter().enumerate() {
-            if self.allows(line, i, j, level.tolerance) {
-                return k + 1;
-            }
-        }
-        levels.len() + 1
+        first_passing(levels, |t| self.allows(line, i, j, t))
     }
 
-    ghost rules: { (m : Self) → Rules largest (says m) };
+    ghost rules: { (m : Self) → Rules LARGEST (says m) };
+}
+
+// The first of the levels whose tolerance passes a test; none where no level's does.
+pub(crate) fn first_passing<F: Fn(u32) -> bool>(levels: &[Level], passes: F) -> Option<usize>
+    requires { F.IsAlwaysCallable passes }
+    ensures { (test : ℕ → Bool) → ((t : ℕ) (answer : Bool) → F.post passes t answer → answer ≡ test t) → result ≡ first_passing test levels.now }
+{
+    let place = levels.iter().position(|level| passes(level.tolerance))?;
+    Some(place + 1)
 }

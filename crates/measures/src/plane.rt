@@ -1,11 +1,37 @@
 // Plane geometry on vertices in range: no result is rounded and none can overflow.
 ghost use Rattle.std.specs.Prelude.{◌≡◌, ◌*◌, ◌≤◌, ◌+ℤ◌, ◌-ℤ◌, ◌*ℤ◌, unsigned_abs};
 ghost use Rattle.lines.specs.Vertex.{InRange};
+ghost use Rattle.measures.specs.Plane.{squared};
 
 use lines::exact::{difference, product};
 use lines::vertex::Vertex;
 
-// The way from one vertex in range to another.
+// A vertex in range.
+#[derive(Clone, Copy)]
+pub(crate) struct Point {
+    vertex: Vertex,
+    ghost in_range: { InRange vertex },
+}
+
+impl Point {
+    // The point of a vertex in range.
+    pub(crate) fn new(vertex: Vertex) -> Point
+        requires { InRange vertex }
+        ensures { result.vertex ≡ vertex }
+    {
+        Point { vertex }
+    }
+
+    // The squared distance of two points.
+    pub(crate) fn distance(self, other: Point) -> u64
+        ensures { result ≡ unsigned_abs (squared self.vertex other.vertex) }
+    {
+        let way = Way::between(self, other);
+        way.dot(way).unsigned_abs()
+    }
+}
+
+// The way from one point to another.
 #[derive(Clone, Copy)]
 pub(crate) struct Way {
     x: i32,
@@ -15,47 +41,37 @@ pub(crate) struct Way {
 
 impl Way {
     // The way p → q.
-    pub(crate) fn between(p: Vertex, q: Vertex) -> Way
-        requires { (InRange p) × (InRange q) }
-        ensures x { result.x ≡ q.x -ℤ p.x }
-        ensures y { result.y ≡ q.y -ℤ p.y }
+    pub(crate) fn between(p: Point, q: Point) -> Way
+        ensures x { result.x ≡ q.vertex.x -ℤ p.vertex.x }
+        ensures y { result.y ≡ q.vertex.y -ℤ p.vertex.y }
     {
         Way {
-            x: difference(p.x, q.x),
-            y: difference(p.y, q.y),
+            x: difference(p.vertex.x, q.vertex.x),
+            y: difference(p.vertex.y, q.vertex.y),
         }
     }
-}
 
-// The scalar product of two ways.
-pub(crate) fn dot(a: Way, b: Way) -> i64
-    ensures value { result ≡ (a.x *ℤ b.x) +ℤ (a.y *ℤ b.y) }
-    ensures bound { unsigned_abs result ≤ 2147352578 }
-{
-    product(a.x, b.x) + product(a.y, b.y)
-}
+    // The scalar product of two ways.
+    pub(crate) fn dot(self, other: Way) -> i64
+        ensures value { result ≡ (self.x *ℤ other.x) +ℤ (self.y *ℤ other.y) }
+        ensures bound { unsigned_abs result ≤ 2147352578 }
+    {
+        product(self.x, other.x) + product(self.y, other.y)
+    }
 
-// The cross product of two ways.
-pub(crate) fn cross(a: Way, b: Way) -> i64
-    ensures value { result ≡ (a.x *ℤ b.y) -ℤ (a.y *ℤ b.x) }
-    ensures bound { unsigned_abs result ≤ 2147352578 }
-{
-    product(a.x, b.y) - product(a.y, b.x)
-}
+    // The square of the cross product of two ways.
+    pub(crate) fn cross_squared(self, other: Way) -> u64
+        ensures { result ≡ unsigned_abs ((self.x *ℤ other.y) -ℤ (self.y *ℤ other.x)) * unsigned_abs ((self.x *ℤ other.y) -ℤ (self.y *ℤ other.x)) }
+    {
+        let size = self.cross(other).unsigned_abs();
+        size * size
+    }
 
-// The square of a scalar or cross product.
-pub(crate) fn square(a: i64) -> i64
-    requires { unsigned_abs a ≤ 2147352578 }
-    ensures { result ≡ a *ℤ a }
-{
-    a * a
-}
-
-// The same square, as a number without sign.
-pub(crate) fn square_size(a: i64) -> u64
-    requires { unsigned_abs a ≤ 2147352578 }
-    ensures { result ≡ unsigned_abs a * unsigned_abs a }
-{
-    let size = a.unsigned_abs();
-    size * size
+    // The cross product of two ways.
+    pub(crate) fn cross(self, other: Way) -> i64
+        ensures value { result ≡ (self.x *ℤ other.y) -ℤ (self.y *ℤ other.x) }
+        ensures bound { unsigned_abs result ≤ 2147352578 }
+    {
+        product(self.x, other.y) - product(self.y, other.x)
+    }
 }

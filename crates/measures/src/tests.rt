@@ -105,6 +105,12 @@ fn level(tolerance: u32) -> Level {
     }
 }
 
+// The grade of a link: its first level, or one more than there are levels.
+fn grade<M: Measure>(m: &M, line: &Line, levels: &[Level], i: usize, j: usize) -> usize {
+    m.first_level(line, levels, i, j)
+        .unwrap_or(levels.len() + 1)
+}
+
 // The grade is what asking level by level gives.
 fn grade_is_first<M: Measure>(
     rt: &impl Abort,
@@ -114,7 +120,7 @@ fn grade_is_first<M: Measure>(
     i: usize,
     j: usize,
 ) -> Result<(), Fail> {
-    let grade = m.grade(line, levels, i, j);
+    let grade = grade(m, line, levels, i, j);
     for (k, level) in levels.iter().enumerate() {
         if m.allows(line, i, j, level.tolerance) {
             assert_eq!(rt; grade, k + 1);
@@ -169,9 +175,9 @@ fn the_grade_of_a_link(rt: HostRuntime) -> Result<(), Fail> {
     let vertices = [at(0, 0), at(5, 0), at(3, 0)];
     line.make(&vertices)?;
     let levels = [level(1), level(2), level(40000)];
-    assert_eq!(rt; Segment.grade(&line, &levels, 0, 2), 2);
-    assert_eq!(rt; Strip.grade(&line, &levels, 0, 2), 1);
-    assert_eq!(rt; Segment.grade(&line, &levels[2..3], 0, 2), 2);
-    assert_eq!(rt; Segment.grade(&line, &levels, 2, 0), 4);
+    assert_eq!(rt; grade(&Segment, &line, &levels, 0, 2), 2);
+    assert_eq!(rt; grade(&Strip, &line, &levels, 0, 2), 1);
+    assert_eq!(rt; grade(&Segment, &line, &levels[2..3], 0, 2), 2);
+    assert_eq!(rt; grade(&Segment, &line, &levels, 2, 0), 4);
     Ok(())
 }

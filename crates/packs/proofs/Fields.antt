@@ -1,5 +1,6 @@
 -- Numbers in byte strings. Assumes nothing.
-use Rattle.std.proofs.Common.{◌≡◌, ℕ, zero, suc, ◌+◌, ◌-◌, ◌*◌, ◌^◌, ◌<◌, ◌≤◌, min, ◌⊎◌, List, [], length, get_or, take, sym, refl, ap, ◌∙◌, inl, inr, add_assoc, arith}
+use Rattle.std.proofs.Common.{◌≡◌, ℕ, zero, suc, ◌+◌, ◌-◌, ◌*◌, ◌^◌, ◌<◌, ◌≤◌, min, ◌⊎◌, List, [], length, get_or, take, sym, refl, ap, ◌∙◌, inl, inr, ap₂, add-zero, mul_comm, mul_assoc, pow-suc, arith}
+use Rattle.std.specs.Int.{sum_through, byte_worth}
 use Rattle.std.proofs.lemmas.List.{drop_more, drop_all, get_or_past}
 use Rattle.std.proofs.lemmas.Bool.{cases_lt}
 use Rattle.packs.specs.Bytes.{little, field}
@@ -8,11 +9,11 @@ nothing : (w : ℕ) → little (take w []) ≡ 0
 nothing zero = refl
 nothing (suc w) = refl
 
-pub field_past : (w p : ℕ) (bs : List ℕ) → length bs ≤ p → field w p bs ≡ 0
+field_past : (w p : ℕ) (bs : List ℕ) → length bs ≤ p → field w p bs ≡ 0
 field_past w p bs h = rw (drop_all p bs h) (nothing w)
 
--- one byte more of a field
-pub field_more : (w p : ℕ) (bs : List ℕ) → field (suc w) p bs ≡ get_or bs p 0 + 256 * field w (p + 1) bs
+-- one byte more of a field, in front
+field_more : (w p : ℕ) (bs : List ℕ) → field (suc w) p bs ≡ get_or bs p 0 + 256 * field w (p + 1) bs
 field_more w p bs = go (cases_lt p (length bs))
   where
     go : (p < length bs) ⊎ (length bs ≤ p) → field (suc w) p bs ≡ get_or bs p 0 + 256 * field w (p + 1) bs
@@ -23,34 +24,30 @@ field_more w p bs = go (cases_lt p (length bs))
         let d = field_past w (p + 1) bs (omega arith) in
         omega arith
 
--- two bytes more
-pub field_two : (w p : ℕ) (bs : List ℕ) → field (suc (suc w)) p bs ≡ field 2 p bs + 65536 * field w (p + 2) bs
-field_two w p bs =
+-- and at its end
+field_further : (w p : ℕ) (bs : List ℕ) → field (suc w) p bs ≡ field w p bs + get_or bs (p + w) 0 * 256 ^ w
+field_further zero p bs = let a = field_more 0 p bs in let e = ap (λ q. get_or bs q 0) (add-zero p) in omega arith
+field_further (suc w) p bs =
     let a = field_more (suc w) p bs in
-    let b = field_more w (p + 1) bs in
-    let d = field_more 1 p bs in
-    let e = field_more 0 (p + 1) bs in
-    let f = ap (λ q. field w q bs) (add_assoc p 1 1) in
+    let b = field_more w p bs in
+    let d = field_further w (p + 1) bs in
+    let x = get_or bs (p + suc w) 0 in
+    let i : p + 1 + w ≡ p + suc w = omega arith in
+    let e = ap (λ q. get_or bs q 0 * 256 ^ w) i in
+    let m : x * 256 ^ suc w ≡ 256 * (x * 256 ^ w) = ap (λ n. x * n) (pow-suc 256 w) ∙ sym (mul_assoc x (256 ^ w) 256) ∙ mul_comm (x * 256 ^ w) 256 in
     omega arith
 
-pub field_four : (p : ℕ) (bs : List ℕ) → field 8 p bs ≡ field 4 p bs + 4294967296 * field 4 (p + 4) bs
-field_four p bs =
-    let a = field_two 6 p bs in
-    let b = field_two 4 (p + 2) bs in
-    let d = field_two 2 p bs in
-    let f = ap (λ q. field 4 q bs) (add_assoc p 2 2) in
-    omega arith
+-- a number is read from the bytes of its field
+pub from_part : (w p : ℕ) (bs part : List ℕ) → ((i : ℕ) → i < suc w → get_or part i 0 ≡ get_or bs (p + i) 0) →
+    sum_through (λ i. byte_worth i (get_or part i 0)) w ≡ field (suc w) p bs
+from_part zero p bs part h = h 0 (omega arith) ∙ sym (let f = field_further 0 p bs in omega arith)
+from_part (suc w) p bs part h =
+    ap₂ (λ n x. n + x * 256 ^ suc w) (from_part w p bs part (λ i l. h i (omega arith))) (h (suc w) (omega arith)) ∙ sym (field_further (suc w) p bs)
 
 -- a place that stops at the largest number reads as the place itself
-pub stopped : (w p k q : ℕ) (bs : List ℕ) → length bs < 2 ^ 64 → q ≡ min (p + k) (2 ^ 64 - 1) → field w q bs ≡ field w (p + k) bs
-stopped w p k q bs h e = go (cases_lt (p + k) (2 ^ 64 - 1))
+pub stopped : (p : ℕ) (bs : List ℕ) → length bs < 2 ^ 64 → get_or bs (min p (2 ^ 64 - 1)) 0 ≡ get_or bs p 0
+stopped p bs h = go (cases_lt p (2 ^ 64 - 1))
   where
-    go : (p + k < 2 ^ 64 - 1) ⊎ (2 ^ 64 - 1 ≤ p + k) → field w q bs ≡ field w (p + k) bs
-    go (inl l) = let d : q ≡ p + k = omega arith in ap (λ x. field w x bs) d
-    go (inr l) =
-        let a = field_past w q bs (omega arith) in
-        let b = field_past w (p + k) bs (omega arith) in
-        a ∙ sym b
-
-pub octet_is : (p : ℕ) (bs : List ℕ) → get_or bs p 0 ≡ field 1 p bs
-octet_is p bs = let a = field_more 0 p bs in omega arith
+    go : (p < 2 ^ 64 - 1) ⊎ (2 ^ 64 - 1 ≤ p) → get_or bs (min p (2 ^ 64 - 1)) 0 ≡ get_or bs p 0
+    go (inl l) = let d : min p (2 ^ 64 - 1) ≡ p = omega arith in ap (λ x. get_or bs x 0) d
+    go (inr l) = get_or_past bs _ 0 (omega arith) ∙ sym (get_or_past bs p 0 (omega arith))

@@ -1,5 +1,5 @@
 -- Items of one width written and read back. Assumes nothing.
-use Rattle.std.proofs.Common.{◌≡◌, ℕ, zero, suc, ◌+◌, ◌*◌, ◌^◌, ◌<◌, ◌≤◌, List, [], ◌∷◌, ◌++◌, length, take, drop, ℤ, pos, negsuc, ◌≤ℤ◌, sym, refl, ap, ◌∙◌, add_comm, mul-zero, mul-suc, arith, length-drop, take-add}
+use Rattle.std.proofs.Common.{◌≡◌, ℕ, zero, suc, ◌+◌, ◌*◌, ◌<◌, ◌≤◌, List, [], ◌∷◌, ◌++◌, length, take, drop, ℤ, pos, negsuc, ◌≤ℤ◌, sym, refl, ap, ◌∙◌, add_comm, mul-zero, mul-suc, arith, length-drop, take-add}
 use lib.Signed.{mag}
 use Rattle.std.specs.List.{flat_map, AllByRecursion}
 use Rattle.std.proofs.lemmas.List.{append_assoc, length-append, drop_at}
@@ -9,7 +9,7 @@ use Rattle.lines.specs.declared.vertex.Vertex.{Vertex}
 use Rattle.lines.specs.declared.level.Level.{Level}
 use Rattle.packs.specs.Bytes.{Octets, le, field, signed, unsigned}
 use Rattle.packs.specs.Job.{items, vertex_bytes, level_bytes, vertex_from, level_from}
-use Rattle.packs.proofs.LittleEndian.{octets_drop, little_le, field_small, le_field, le_fields, field_front}
+use Rattle.packs.proofs.LittleEndian.{octets_drop, little_le, field_small, le_field, le_fields}
 use Rattle.packs.proofs.Signs.{signed_unsigned, unsigned_small, unsigned_signed}
 
 pub length_joined : {X : Type 0} (w : ℕ) (to : X → List ℕ) → ((x : X) → length (to x) ≡ w) → (xs : List X) → length (flat_map to xs) ≡ w * length xs
@@ -76,6 +76,3 @@ level_read l rest s =
 -- numbers of w bytes each
 pub number_written : (w : ℕ) (bs : List ℕ) → Octets bs → w ≤ length bs → le w (field w 0 bs) ≡ take w bs
 number_written w bs o h = le_field w 0 bs o (omega arith)
-
-pub number_read : (w n : ℕ) (rest : List ℕ) → n < 256 ^ w → field w 0 (le w n ++ rest) ≡ n
-number_read = field_front

@@ -1,7 +1,7 @@
 -- Numbers written in bytes and read back. Assumes nothing.
-use Rattle.std.proofs.Common.{◌≡◌, ℕ, zero, suc, ◌+◌, ◌*◌, ◌/◌, ◌%◌, ◌^◌, ◌<◌, ◌≤◌, List, [], ◌∷◌, ◌++◌, length, get_or, take, drop, sym, refl, ap, ◌∙◌, pow-suc, arith, length-drop, take-add}
+use Rattle.std.proofs.Common.{◌≡◌, ℕ, zero, suc, ◌+◌, ◌*◌, ◌/◌, ◌%◌, ◌^◌, ◌<◌, ◌≤◌, List, [], ◌∷◌, ◌++◌, length, take, drop, sym, refl, ap, ◌∙◌, pow-suc, arith, length-drop, take-add}
 use Rattle.std.proofs.lemmas.Nat.{div_below}
-use Rattle.std.proofs.lemmas.List.{take_at, drop_at, get_or-drop}
+use Rattle.std.proofs.lemmas.List.{take_at, get_or-drop}
 use Rattle.packs.specs.Bytes.{Octets, little, le, field}
 
 pub length_le : (w n : ℕ) → length (le w n) ≡ w
@@ -20,24 +20,13 @@ little_le (suc w) n h =
 pub octets_drop : (p : ℕ) (bs : List ℕ) → Octets bs → Octets (drop p bs)
 octets_drop p bs o = λ i. rw (get_or-drop p bs i 0) (o (p + i))
 
-take_octet : (w : ℕ) (bs : List ℕ) → Octets bs → (i : ℕ) → get_or (take w bs) i 0 < 256
-take_octet zero bs o i = omega arith
-take_octet (suc w) [] o i = omega arith
-take_octet (suc w) (b ∷ bs) o zero = o 0
-take_octet (suc w) (b ∷ bs) o (suc i) = take_octet w bs (λ k. o (suc k)) i
-
 pub octets_take : (w : ℕ) (bs : List ℕ) → Octets bs → Octets (take w bs)
-octets_take = take_octet
+octets_take zero bs o i = omega arith
+octets_take (suc w) [] o i = omega arith
+octets_take (suc w) (b ∷ bs) o zero = o 0
+octets_take (suc w) (b ∷ bs) o (suc i) = octets_take w bs (λ k. o (suc k)) i
 
 -- writing what was read
-pub le_little : (xs : List ℕ) → Octets xs → le (length xs) (little xs) ≡ xs
-le_little [] o = refl
-le_little (b ∷ bs) o =
-    let s : b < 256 = o 0 in
-    let m : (b + 256 * little bs) % 256 ≡ b = omega arith in
-    let d : (b + 256 * little bs) / 256 ≡ little bs = omega arith in
-    rw (m, d, le_little bs (λ i. o (suc i))) refl
-
 pub le_take : (w : ℕ) (bs : List ℕ) → Octets bs → w ≤ length bs → le w (little (take w bs)) ≡ take w bs
 le_take zero bs o h = refl
 le_take (suc w) [] o h = absurd (omega arith)
@@ -67,9 +56,6 @@ pub le_fields : (v w : ℕ) (bs : List ℕ) → Octets bs → v + w ≤ length b
 le_fields v w bs o h =
     ap (λ xs. xs ++ le w (field w v bs)) (le_field v 0 bs o (omega arith)) ∙ ap (λ xs. take v bs ++ xs) (le_field w v bs o h) ∙ sym (take-add v w bs)
 
--- a number that stands in front, and one after other bytes
+-- a number that stands in front
 pub field_front : (w n : ℕ) (xs : List ℕ) → n < 256 ^ w → field w 0 (le w n ++ xs) ≡ n
 field_front w n xs h = ap little (take_at (le w n) xs w (length_le w n)) ∙ little_le w n h
-
-pub field_after : (w p n : ℕ) (front xs : List ℕ) → length front ≡ p → n < 256 ^ w → field w p (front ++ (le w n ++ xs)) ≡ n
-field_after w p n front xs l h = ap (λ bs. little (take w bs)) (drop_at front (le w n ++ xs) p l) ∙ field_front w n xs h

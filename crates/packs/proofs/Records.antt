@@ -13,26 +13,20 @@ use Rattle.packs.specs.Record.{kind_of, fits, record_at}
 pub field_drop : (w p at : ℕ) (bs : List ℕ) → field w p (drop at bs) ≡ field w (at + p) bs
 field_drop w p at bs = ap (λ cs. little (take w cs)) (drop-drop p at bs)
 
-pub kind_field : (at : ℕ) (bs : List ℕ) → field 2 4 (drop at bs) ≡ field 2 (at + 4) bs
-kind_field at bs = field_drop 2 4 at bs
-
 module _ (due : Due) (at : ℕ) (bs : List ℕ) where
   abbrev rest : List ℕ
   rest = drop at bs
-
-  pub no_header : length bs - at < 6 → record_at due at rest ≡ Err (fault RunsOut Pack at)
-  no_header h = cond-false _ _ _ (lt-leb 6 (length rest) (rw (length-drop at bs) h))
 
   module _ (h : 6 ≤ length bs - at) where
     header : leb 6 (length rest) ≡ true
     header = le-leb 6 (length rest) (rw (length-drop at bs) h)
 
     pub other_kind : (field 2 (at + 4) bs ≡ kind_of due → ⊥) → record_at due at rest ≡ Err (fault WrongKind Pack at)
-    other_kind d = cond-true _ _ _ header ∙ cond-false _ _ _ (ne_eqb _ _ (λ e. d (sym (kind_field at bs) ∙ e)))
+    other_kind d = cond-true _ _ _ header ∙ cond-false _ _ _ (ne_eqb _ _ (λ e. d (sym (field_drop 2 4 at bs) ∙ e)))
 
     module _ (k : field 2 (at + 4) bs ≡ kind_of due) where
       kind : eqb (field 2 4 rest) (kind_of due) ≡ true
-      kind = eq-eqb _ _ (kind_field at bs ∙ k)
+      kind = eq-eqb _ _ (field_drop 2 4 at bs ∙ k)
 
       pub other_length : fits due (field 4 at bs) ≡ false → record_at due at rest ≡ Err (fault WrongLength Pack at)
       other_length f = cond-true _ _ _ header ∙ cond-true _ _ _ kind ∙ cond-false _ _ _ f

@@ -1,5 +1,5 @@
 -- The measures and prices that packs name by a number. Assumes nothing.
-use Rattle.std.specs.Prelude.{ℕ, cond, Some, None, Option, ◌==◌}
+use Rattle.std.specs.Prelude.{ℕ, cond, List, ◌++◌, Some, None, Option, ◌==◌, codes, decimal}
 use Rattle.measures.specs.Segment.{segment_largest}
 use Rattle.measures.specs.Strip.{strip_largest}
 use Rattle.measures.specs.Area.{area_largest}
@@ -7,6 +7,7 @@ use Rattle.packs.specs.declared.kind.MeasureKind.{MeasureKind}
 use Rattle.packs.specs.declared.kind.MeasureKind.TheVariants.{Segment, Strip, Area}
 use Rattle.packs.specs.declared.kind.PriceKind.{PriceKind}
 use Rattle.packs.specs.declared.kind.PriceKind.TheVariants.{Count, CountThenArea}
+use Rattle.packs.specs.declared.kind.UnknownNumber.{UnknownNumber}
 
 -- The number of each measure.
 abbrev pub measure_number : MeasureKind → ℕ
@@ -26,6 +27,14 @@ measure_numbered n = cond (n == 1) (Some Segment) (cond (n == 2) (Some Strip) (c
 -- The price with a number, if there is one.
 abbrev pub price_numbered : ℕ → Option PriceKind
 price_numbered n = cond (n == 1) (Some Count) (cond (n == 2) (Some CountThenArea) None)
+
+-- A number that names nothing.
+abbrev pub unknown : ℕ → UnknownNumber
+unknown n = record { 0 = n }
+
+-- The text of such a number.
+abbrev pub unknown_text : UnknownNumber → List ℕ
+unknown_text e = codes "nothing has the number " ++ decimal e.0
 
 -- The largest tolerance of each measure.
 abbrev pub measure_largest : MeasureKind → ℕ

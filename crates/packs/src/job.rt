@@ -9,6 +9,7 @@ pub struct Layout {
 }
 
 // A job that was read: its measure and price, and how many vertices and levels now lie in the place that was lent.
+// No ghost field keeps the counts within the place: `summary` makes a Job of any content, and who makes one would owe the proof.
 #[derive(Clone, Copy)]
 pub struct Job {
     pub measure: MeasureKind,

@@ -1,10 +1,12 @@
-ghost use Rattle.std.specs.Prelude.{◌≡◌};
-ghost use Rattle.packs.specs.Kind.{measure_numbered, price_numbered, measure_largest};
+ghost use Rattle.std.specs.Prelude.{◌≡◌, Some, ok_or};
+ghost use Rattle.packs.specs.Kind.{measure_numbered, price_numbered, unknown, unknown_text, measure_largest};
 
 use measures::area::Area;
 use measures::measure::Measure;
 use measures::segment::Segment;
 use measures::strip::Strip;
+use std::error::Error;
+use std::fmt;
 
 // The measures that packs name by a number.
 #[derive(Clone, Copy, PartialEq, Eq, Debug)]
@@ -21,40 +23,60 @@ pub enum PriceKind {
     CountThenArea,
 }
 
-impl MeasureKind {
-    // The measure with this number.
-    pub fn numbered(number: u8) -> Option<MeasureKind>
-        ensures { result ≡ measure_numbered number }
-    {
+// A number that names no measure, or no price.
+#[derive(Clone, Copy, PartialEq, Eq, Debug)]
+pub struct UnknownNumber(pub u8);
+
+// The measure with a number.
+impl TryFrom<u8> for MeasureKind {
+    type Error = UnknownNumber;
+
+    ghost try_from_gives = { λ number answer. answer ≡ ok_or (measure_numbered number) (unknown number) };
+
+    fn try_from(number: u8) -> Result<MeasureKind, UnknownNumber> {
         match number {
-            1 => Some(MeasureKind::Segment),
-            2 => Some(MeasureKind::Strip),
-            3 => Some(MeasureKind::Area),
-            _ => None,
+            1 => Ok(MeasureKind::Segment),
+            2 => Ok(MeasureKind::Strip),
+            3 => Ok(MeasureKind::Area),
+            _ => Err(UnknownNumber(number)),
         }
     }
+}
 
+// The price with a number.
+impl TryFrom<u8> for PriceKind {
+    type Error = UnknownNumber;
+
+    ghost try_from_gives = { λ number answer. answer ≡ ok_or (price_numbered number) (unknown number) };
+
+    fn try_from(number: u8) -> Result<PriceKind, UnknownNumber> {
+        match number {
+            1 => Ok(PriceKind::Count),
+            2 => Ok(PriceKind::CountThenArea),
+            _ => Err(UnknownNumber(number)),
+        }
+    }
+}
+
+impl MeasureKind {
     // The largest tolerance of the measure.
     pub fn largest(self) -> u32
         ensures { result ≡ measure_largest self }
     {
         match self {
-            MeasureKind::Segment => Segment::largest_tolerance(),
-            MeasureKind::Strip => Strip::largest_tolerance(),
-            MeasureKind::Area => Area::largest_tolerance(),
+            MeasureKind::Segment => Segment::LARGEST,
+            MeasureKind::Strip => Strip::LARGEST,
+            MeasureKind::Area => Area::LARGEST,
         }
     }
 }
 
-impl PriceKind {
-    // The price with this number.
-    pub fn numbered(number: u8) -> Option<PriceKind>
-        ensures { result ≡ price_numbered number }
-    {
-        match number {
-            1 => Some(PriceKind::Count),
-            2 => Some(PriceKind::CountThenArea),
-            _ => None,
-        }
+impl fmt::Display for UnknownNumber {
+    ghost output = { λ error. Some (unknown_text error) };
+
+    fn fmt<W: fmt::Write>(&self, f: &mut fmt::Formatter<W>) -> fmt::Result {
+        write!(f, "nothing has the number {}", self.0)
     }
 }
+
+impl Error for UnknownNumber {}

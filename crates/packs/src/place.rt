@@ -6,6 +6,7 @@ use lines::level::Level;
 use lines::vertex::Vertex;
 
 // A place for a job: 256 vertices and 8 levels.
+// The arrays are fixed and carry no counts: readers use no heap, and what lies past what was read stays as it was.
 #[derive(Drop)]
 pub struct Place {
     pub vertices: [Vertex; 256],

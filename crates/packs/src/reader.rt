@@ -1,4 +1,4 @@
-ghost use Rattle.std.specs.Prelude.{◌≡◌, ◌+◌, ◌*◌, ◌/◌, ◌≤◌, length, take, drop, IfOk};
+ghost use Rattle.std.specs.Prelude.{◌≡◌, ℕ, ◌+◌, ◌*◌, ◌/◌, ◌≤◌, List, length, take, drop, MatchResult};
 ghost use Rattle.packs.specs.Job.{vertex_from, level_from, items, Within, layout_in, vertices_in, levels_in, judged_content, content_in, job_in, head_in, content_of, summed_up, summed_up_to, AcceptsJobs, AcceptsHeads, placed_vertices, placed_levels};
 
 use crate::bytes::{u8_at, u16_at, u32_at};
@@ -11,77 +11,124 @@ use lines::level::{Level, check_levels};
 use lines::line::Line;
 use lines::vertex::Vertex;
 
-// The vertex at a place.
-fn vertex_at(bytes: &[u8], at: usize) -> Vertex
-    requires { at + 4 ≤ length bytes.now }
-    ensures { result ≡ vertex_from (drop at bytes.now) }
-{
-    Vertex {
-        x: u16_at(bytes, at).cast_signed(),
-        y: u16_at(bytes, at + 2).cast_signed(),
+// What a pack holds many of, each as bytes of one width.
+trait Item: Copy {
+    const WIDTH: usize;
+
+    ghost WIDTH: { ℕ };
+
+    ghost from_bytes: { List ℕ → Self };
+
+    // The item at a place.
+    fn read(bytes: &[u8], at: usize) -> Self
+        requires { at + WIDTH ≤ length bytes.now }
+        ensures { result ≡ from_bytes (drop at bytes.now) };
+}
+
+impl Item for Vertex {
+    const WIDTH: usize = 4;
+
+    ghost WIDTH = { 4 };
+
+    ghost from_bytes = { vertex_from };
+
+    fn read(bytes: &[u8], at: usize) -> Vertex {
+        Vertex {
+            x: u16_at(bytes, at).cast_signed(),
+            y: u16_at(bytes, at + 2).cast_signed(),
+        }
     }
 }
 
-// The level at a place.
-fn level_at(bytes: &[u8], at: usize) -> Level
-    requires { at + 8 ≤ length bytes.now }
-    ensures { result ≡ level_from (drop at bytes.now) }
-{
-    Level {
-        tolerance: u32_at(bytes, at),
-        weight: u32_at(bytes, at + 4),
+impl Item for Level {
+    const WIDTH: usize = 8;
+
+    ghost WIDTH = { 8 };
+
+    ghost from_bytes = { level_from };
+
+    fn read(bytes: &[u8], at: usize) -> Level {
+        Level {
+            tolerance: u32_at(bytes, at),
+            weight: u32_at(bytes, at + 4),
+        }
     }
 }
 
-// Fills `out` with the vertices from a place on.
-fn read_vertices(bytes: &[u8], at: usize, out: &mut [Vertex])
-    requires { at + 4 * length out.old ≤ length bytes.now }
-    ensures { out.new ≡ items 4 vertex_from (length out.old) (drop at bytes.now) }
+// Fills `out` with the items from a place on.
+fn read_items<T: Item>(bytes: &[u8], at: usize, out: &mut [T])
+    requires { at + T.Item.WIDTH * length out.old ≤ length bytes.now }
+    ensures { out.new ≡ items T.Item.WIDTH T.Item.from_bytes (length out.old) (drop at bytes.now) }
 {
-    for i in 0..out.len() {
-        out[i] = vertex_at(bytes, at + 4 * i);
+    for (i, item) in out.iter_mut().enumerate() {
+        *item = T::read(bytes, at + T::WIDTH * i);
     }
 }
 
-// Fills `out` with the levels from a place on.
-fn read_levels(bytes: &[u8], at: usize, out: &mut [Level])
-    requires { at + 8 * length out.old ≤ length bytes.now }
-    ensures { out.new ≡ items 8 level_from (length out.old) (drop at bytes.now) }
-{
-    for i in 0..out.len() {
-        out[i] = level_at(bytes, at + 8 * i);
+// The first three records of a pack, whose structure is right.
+#[derive(Clone, Copy)]
+struct Head<'a> {
+    bytes: &'a [u8],
+    layout: Layout,
+    ghost within: { Within bytes.now layout },
+}
+
+impl<'a> Head<'a> {
+    // The structure of the first three records, or the first fault.
+    fn open(bytes: &'a [u8]) -> Result<Head<'a>, Fault>
+        ensures { MatchResult result (λ head. (head.bytes ≡ bytes.entry) × (layout_in bytes.now ≡ Ok head.layout)) (λ fault. layout_in bytes.now ≡ Err fault) }
+    {
+        body_length(bytes, 0, Due::Numbers)?;
+        let vertices = body_length(bytes, 8, Due::Vertices)?;
+        let levels = body_length(bytes, 14 + vertices, Due::Levels)?;
+        let layout = Layout {
+            vertices,
+            levels,
+            end: 20 + vertices + levels,
+        };
+        Ok(Head { bytes, layout })
     }
-}
 
-// The structure of the first three records.
-fn layout(bytes: &[u8]) -> Result<Layout, Fault>
-    ensures answer { result ≡ layout_in bytes.now }
-    ensures within { IfOk result (Within bytes.now) }
-{
-    body_length(bytes, 0, Due::Numbers)?;
-    let vertices = body_length(bytes, 8, Due::Vertices)?;
-    let levels = body_length(bytes, 14 + vertices, Due::Levels)?;
-    Ok(Layout {
-        vertices,
-        levels,
-        end: 20 + vertices + levels,
-    })
-}
+    // The vertices and levels of the records, in the front of a place.
+    fn decode(&self) -> Place
+        ensures vertices { take (self.now.layout.vertices / 4) result.vertices ≡ vertices_in self.now.bytes.now self.now.layout }
+        ensures levels { take (self.now.layout.levels / 8) result.levels ≡ levels_in self.now.bytes.now self.now.layout }
+    {
+        let layout = self.layout;
+        let mut place = Place::blank();
+        read_items(self.bytes, 14, &mut place.vertices[0..layout.vertices / 4]);
+        read_items(
+            self.bytes,
+            20 + layout.vertices,
+            &mut place.levels[0..layout.levels / 8],
+        );
+        place
+    }
 
-// The vertices and levels of the records, in the front of a place.
-fn decode(bytes: &[u8], layout: Layout) -> Place
-    requires { Within bytes.now layout }
-    ensures vertices { take (layout.vertices / 4) result.vertices ≡ vertices_in bytes.now layout }
-    ensures levels { take (layout.levels / 8) result.levels ≡ levels_in bytes.now layout }
-{
-    let mut place = Place::blank();
-    read_vertices(bytes, 14, &mut place.vertices[0..layout.vertices / 4]);
-    read_levels(
-        bytes,
-        20 + layout.vertices,
-        &mut place.levels[0..layout.levels / 8],
-    );
-    place
+    // The content of the records, put into the place; a refusal leaves the place as it stood.
+    fn content(&self, place: &mut Place) -> Result<Job, Fault>
+        ensures answer { result ≡ summed_up (content_in self.now.bytes.now self.now.layout) }
+        ensures vertices { place.new.vertices ≡ placed_vertices (content_in self.now.bytes.now self.now.layout) place.old.vertices }
+        ensures levels { place.new.levels ≡ placed_levels (content_in self.now.bytes.now self.now.layout) place.old.levels }
+    {
+        let Ok(measure) = MeasureKind::try_from(u8_at(self.bytes, 6)) else {
+            return Err(Fault::new(Cause::Unknown, Layer::Content, 0));
+        };
+        let Ok(price) = PriceKind::try_from(u8_at(self.bytes, 7)) else {
+            return Err(Fault::new(Cause::Unknown, Layer::Content, 1));
+        };
+        let n = self.layout.vertices / 4;
+        let m = self.layout.levels / 8;
+        let read = self.decode();
+        judge(&read.vertices[0..n], &read.levels[0..m], measure)?;
+        place.put(&read.vertices[0..n], &read.levels[0..m]);
+        Ok(Job {
+            measure,
+            price,
+            vertices: n,
+            levels: m,
+        })
+    }
 }
 
 // Judges the vertices as a line, then the levels.
@@ -93,69 +140,31 @@ fn judge(vertices: &[Vertex], levels: &[Level], measure: MeasureKind) -> Result<
     check_levels(levels, measure.largest(), Layer::Content)
 }
 
-// The content of the three records, put into the place; a refusal leaves the place as it stood.
-fn content(bytes: &[u8], layout: Layout, place: &mut Place) -> Result<Job, Fault>
-    requires { Within bytes.now layout }
-    ensures answer { result ≡ summed_up (content_in bytes.now layout) }
-    ensures vertices { place.new.vertices ≡ placed_vertices (content_in bytes.now layout) place.old.vertices }
-    ensures levels { place.new.levels ≡ placed_levels (content_in bytes.now layout) place.old.levels }
-{
-    let Some(measure) = MeasureKind::numbered(u8_at(bytes, 6)) else {
-        return Err(Fault {
-            cause: Cause::Unknown,
-            layer: Layer::Content,
-            place: 0,
-            spot: 0,
-        });
-    };
-    let Some(price) = PriceKind::numbered(u8_at(bytes, 7)) else {
-        return Err(Fault {
-            cause: Cause::Unknown,
-            layer: Layer::Content,
-            place: 1,
-            spot: 0,
-        });
-    };
-    let n = layout.vertices / 4;
-    let m = layout.levels / 8;
-    let read = decode(bytes, layout);
-    judge(&read.vertices[0..n], &read.levels[0..m], measure)?;
-    place.put(&read.vertices[0..n], &read.levels[0..m]);
-    Ok(Job {
-        measure,
-        price,
-        vertices: n,
-        levels: m,
-    })
-}
-
 // Reads a job pack into the place. A refusal leaves the place as it stood.
+#[tactic(auto, using(crate::proofs::Accepting::accepts_jobs))]
 pub fn read_job(bytes: &[u8], place: &mut Place) -> Result<Job, Fault>
     ensures answer { result ≡ summed_up (job_in bytes.now) }
     ensures accepts_exactly_lawful_jobs { AcceptsJobs bytes.now }
     ensures vertices { place.new.vertices ≡ placed_vertices (job_in bytes.now) place.old.vertices }
     ensures levels { place.new.levels ≡ placed_levels (job_in bytes.now) place.old.levels }
 {
-    let layout = layout(bytes)?;
-    if layout.end != bytes.len() {
-        return Err(Fault {
-            cause: Cause::LeftOver,
-            layer: Layer::Pack,
-            place: layout.end,
-            spot: 0,
-        });
+    let head = Head::open(bytes)?;
+    let end = head.layout.end;
+    if end != bytes.len() {
+        return Err(Fault::new(Cause::LeftOver, Layer::Pack, end));
     }
-    content(bytes, layout, place)
+    head.content(place)
 }
 
 // Reads the beginning of a family pack into the place, and answers where the rest starts. A refusal leaves the place as it stood.
+#[tactic(auto, using(crate::proofs::Accepting::accepts_heads))]
 pub fn read_family_head(bytes: &[u8], place: &mut Place) -> Result<(Job, usize), Fault>
     ensures answer { result ≡ summed_up_to (head_in bytes.now) }
     ensures accepts_exactly_lawful_heads { AcceptsHeads bytes.now }
     ensures vertices { place.new.vertices ≡ placed_vertices (content_of (head_in bytes.now)) place.old.vertices }
     ensures levels { place.new.levels ≡ placed_levels (content_of (head_in bytes.now)) place.old.levels }
 {
-    let layout = layout(bytes)?;
-    let job = content(bytes, layout, place)?;
-    Ok((job, layout.end))
+    let head = Head::open(bytes)?;
+    let job = head.content(place)?;
+    Ok((job, head.layout.end))
 }

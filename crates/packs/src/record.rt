@@ -5,6 +5,7 @@ use crate::bytes::{u16_at, u32_at};
 use lines::fault::{Cause, Fault, Layer};
 
 // The record that is due at a place. A chain's is told the number of vertices of its line.
+// Its numbers stand in `kind` and are no discriminants: Rust allows none with `as` where a variant has a payload.
 #[derive(Clone, Copy)]
 pub enum Due {
     Numbers,
@@ -50,37 +51,17 @@ pub fn body_length(bytes: &[u8], at: usize, due: Due) -> Result<usize, Fault>
 {
     let left = bytes.len().saturating_sub(at);
     if left < 6 {
-        return Err(Fault {
-            cause: Cause::RunsOut,
-            layer: Layer::Pack,
-            place: at,
-            spot: 0,
-        });
+        return Err(Fault::new(Cause::RunsOut, Layer::Pack, at));
     }
     if u16_at(bytes, at + 4) != due.kind() {
-        return Err(Fault {
-            cause: Cause::WrongKind,
-            layer: Layer::Pack,
-            place: at,
-            spot: 0,
-        });
+        return Err(Fault::new(Cause::WrongKind, Layer::Pack, at));
     }
     let size = u32_at(bytes, at);
     if !due.fits(size) {
-        return Err(Fault {
-            cause: Cause::WrongLength,
-            layer: Layer::Pack,
-            place: at,
-            spot: 0,
-        });
+        return Err(Fault::new(Cause::WrongLength, Layer::Pack, at));
     }
     if left - 6 < size as usize {
-        return Err(Fault {
-            cause: Cause::RunsOut,
-            layer: Layer::Pack,
-            place: at,
-            spot: 0,
-        });
+        return Err(Fault::new(Cause::RunsOut, Layer::Pack, at));
     }
     Ok(size as usize)
 }

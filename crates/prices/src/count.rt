@@ -33,12 +33,8 @@ impl Price for Count {
         self.count <= other.count
     }
 
-    fn equals(self, other: Count) -> bool {
-        self.count == other.count
-    }
-
     fn of_link(line: &Line, i: usize, j: usize, weight: u32) -> Count {
-        if i < j && j < line.count() {
+        if line.is_link(i, j) {
             Count { count: weight }
         } else {
             Count::neutral()

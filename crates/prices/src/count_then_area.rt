@@ -47,16 +47,11 @@ impl Price for CountThenArea {
     }
 
     fn not_dearer(self, other: CountThenArea) -> bool {
-        self.count < other.count
-            || self.count == other.count && self.form_area() <= other.form_area()
-    }
-
-    fn equals(self, other: CountThenArea) -> bool {
-        self.count == other.count && self.form_area() == other.form_area()
+        self.form() <= other.form()
     }
 
     fn of_link(line: &Line, i: usize, j: usize, weight: u32) -> CountThenArea {
-        if i < j && j < line.count() {
+        if line.is_link(i, j) {
             CountThenArea {
                 count: weight,
                 area: link_area(line, i, j),

@@ -22,10 +22,6 @@ pub trait Price: Copy {
     fn not_dearer(self, other: Self) -> bool
         ensures { result ≡ kind.not_dearer self other };
 
-    // Whether both are the same price: their forms are equal.
-    fn equals(self, other: Self) -> bool
-        ensures { Decides result (Same kind self other) };
-
     // What the link from i to j costs at a weight; a pair that is no link costs the neutral price.
     fn of_link(line: &Line, i: usize, j: usize, weight: u32) -> Self
         ensures { result ≡ link line.now.vertices.now i j weight };
@@ -33,6 +29,13 @@ pub trait Price: Copy {
     // The price as two numbers, by which it is written down.
     fn form(self) -> (u32, u64)
         ensures { result ≡ kind.form self };
+
+    // Whether both are the same price: their forms are equal.
+    fn equals(self, other: Self) -> bool
+        ensures { Decides result (Same kind self other) }
+    {
+        self.form() == other.form()
+    }
 
     ghost rules: { Rules kind };
 

@@ -1,13 +1,12 @@
 -- What a search found, by the measure's own answers. Assumes nothing.
 use Rattle.std.proofs.Common.{◌≡◌, ℕ, ◌+◌, ◌-◌, ◌<◌, ◌≤◌, Bool, cond, List, length, get_or, drop, sym, refl, ap, ◌∙◌, subst, ap₂, ⊎_elim, arith}
-use Rattle.std.proofs.lemmas.List.{get_or-drop, length-drop, same_lists}
-use Rattle.std.proofs.lemmas.Bool.{cases_lt}
+use Rattle.std.proofs.lemmas.List.{get_or-drop, get_or_default, length-drop, same_lists}
+use Rattle.std.proofs.lemmas.Bool.{cases_lt, le-ltb, lt-ltb}
 use Rattle.families.specs.Price as prices
 use Rattle.families.specs.Family.{total}
 use Rattle.families.specs.Least.{L, first_least}
 use Rattle.families.specs.Stay.{stay}
 use Rattle.families.proofs.LeastTotal.{L_end}
-use Rattle.families.proofs.Onward.{ltb_yes, ltb_no}
 use Rattle.families.proofs.FirstLeast.{stands}
 use Rattle.families.proofs.NothingSmaller.{nothing_smaller}
 use Rattle.families.proofs.Stays.{say_all, staying_same, stays_least}
@@ -18,7 +17,6 @@ use Rattle.lines.specs.declared.vertex.Vertex.{Vertex}
 use Rattle.measures.specs.Measure.{Answer, Rules, allowed_by}
 use Rattle.tables.specs.Grade.{Graded, first_level, by_grade}
 use Rattle.tables.specs.Row.{TableHolds}
-use Rattle.tables.proofs.Filling.{get_or_any}
 use Rattle.tables.proofs.Grades.{tells, reaches_allowed}
 use Rattle.search.specs.Search.{Cells, Least}
 use Rattle.search.proofs.Agreeing.{least_same, stays_same}
@@ -31,8 +29,8 @@ kept_from d before after start e kept =
     same_lists (drop start after) (drop start before) (length-drop start after ∙ ap (λ z. z - start) e ∙ sym (length-drop start before))
     (λ k x h.
     let in_after : start + k < length after = omega (arith, length-drop start after) in
-    get_or-drop start after k x ∙ get_or_any after (start + k) x d in_after ∙ kept (start + k) (omega arith) ∙
-    get_or_any before (start + k) d x (omega arith) ∙ sym (get_or-drop start before k x))
+    get_or-drop start after k x ∙ get_or_default after (start + k) x d in_after ∙ kept (start + k) (omega arith) ∙
+    get_or_default before (start + k) d x (omega arith) ∙ sym (get_or-drop start before k x))
 
 module _ {P : Type 0} (K : prices.Kind P) (price : ℕ → ℕ → ℕ → P) (largest : ℕ) (says : Answer) (rules : Rules largest says) (vs : List Vertex) (line : Lawful vs)
     (ls : List Level) (levels : LawfulLevels largest ls) where
@@ -63,9 +61,9 @@ module _ {P : Type 0} (K : prices.Kind P) (price : ℕ → ℕ → ℕ → P) (l
       priced = λ k i j p q r s. whole k i p q r j s ∙ ⊎_elim
           (λ (l : i < j).
           least_same K price (by_grade table tn tm) allowed m n agree k q i j (omega arith) s ∙
-          sym (ap (λ x. cond x (L K price allowed k i j) K.neutral) (ltb_yes i j l)))
+          sym (ap (λ x. cond x (L K price allowed k i j) K.neutral) (lt-ltb i j l)))
           (λ (l : j ≤ i).
-          L_end K price (by_grade table tn tm) k i j l ∙ sym (ap (λ x. cond x (L K price allowed k i j) K.neutral) (ltb_no i j l)))
+          L_end K price (by_grade table tn tm) k i j l ∙ sym (ap (λ x. cond x (L K price allowed k i j) K.neutral) (le-ltb i j l)))
           (cases_lt i j);
       stayed = λ v h. stayed v h ∙ stays_same K price (by_grade table tn tm) allowed m n agree line.0.0 v;
     }

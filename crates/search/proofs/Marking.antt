@@ -1,20 +1,17 @@
 -- The stays once all are written. Assumes nothing.
-use Rattle.std.proofs.Common.{◌≡◌, ℕ, zero, suc, ◌+◌, ◌-◌, ◌<◌, ◌≤◌, Bool, true, false, ◌||◌, eqb, ◌≢◌, ◌⊎◌, List, [], ◌∷◌, length, get_or, set, sym, refl, ◌∙◌, subst, inl, inr, ⊎_elim, arith}
-use Rattle.std.proofs.lemmas.Bool.{cases_lt, cases_eq, cond-true, eq-eqb}
+use Rattle.std.proofs.Common.{◌≡◌, ℕ, zero, suc, ◌-◌, ◌<◌, ◌≤◌, Bool, true, false, ◌||◌, eqb, ◌⊎◌, List, [], ◌∷◌, length, get_or, set, sym, refl, ◌∙◌, subst, inl, inr, ⊎_elim, arith}
+use Rattle.std.proofs.lemmas.Bool.{cases_lt, cond-true, eq-eqb}
 use Rattle.families.specs.Price.{Kind}
 use Rattle.families.specs.Chain.{Rises, has}
 use Rattle.families.specs.Least.{walk, first_least}
 use Rattle.families.specs.Stay.{stay}
-use Rattle.std.proofs.lemmas.List.{get_or-set_same, get_or-set_other}
+use Rattle.std.proofs.lemmas.List.{length-set, get_or-set_same}
 use Rattle.search.specs.Walk.{stay_between}
 use Rattle.search.proofs.Walks.{walk_rises}
 
-pub zero_in : (cells : List ℕ) (v : ℕ) → v < length cells → ((w : ℕ) → w < v → get_or cells w 0 ≡ 0) → (w : ℕ) → w < v + 1 → get_or (set cells v 0) w 0 ≡ 0
-zero_in cells v lt before w h =
-    ⊎_elim
-    (λ (e : w ≡ v). subst (λ z. get_or (set cells v 0) z 0 ≡ 0) (sym e) (get_or-set_same cells v 0 0 lt))
-    (λ (ne : w ≢ v). get_or-set_other cells v w 0 0 ne ∙ before w (omega arith))
-    (cases_eq w v)
+-- the stay that was written last
+pub last_put : (cells : List ℕ) (n m : ℕ) → 1 ≤ n → n ≤ length cells → get_or (set (set cells 0 m) (n - 1) m) (n - 1) 0 ≡ m
+last_put cells n m one fits = get_or-set_same (set cells 0 m) (n - 1) m 0 (omega (arith, length-set cells 0 m))
 
 -- a rise has its end
 has_end : (a e : ℕ) (bs : List ℕ) → Rises a e bs → has (a ∷ bs) e ≡ true
@@ -31,10 +28,7 @@ top_stays chain (suc m) v a h = cond-true (has (chain (suc m)) v) (suc m) _ h
 
 -- both ends are put first, then what lies between is marked
 module _ {P : Type 0} (K : Kind P) (price : ℕ → ℕ → ℕ → P) (allowed : ℕ → ℕ → ℕ → Bool) (m n : ℕ) (one : 1 ≤ m) (two : 2 ≤ n)
-    (start ends marked : List ℕ)
-    (first : 0 < n → get_or start 0 0 ≡ m)
-    (last : n - 1 < n → get_or ends (n - 1) 0 ≡ m)
-    (others : (w : ℕ) → (w < n - 1) ⊎ ((n - 1 < w) ⊎ (n ≤ w)) → get_or ends w 0 ≡ get_or start w 0)
+    (ends marked : List ℕ) (first : get_or ends 0 0 ≡ m) (last : get_or ends (n - 1) 0 ≡ m)
     (inside : (v : ℕ) → 0 < v → v < n - 1 → get_or marked v 0 ≡ stay_between K price allowed m 0 (n - 1) v)
     (outside : (v : ℕ) → (v ≤ 0) ⊎ (n - 1 ≤ v) → get_or marked v 0 ≡ get_or ends v 0) where
   abbrev family : ℕ → List ℕ
@@ -48,12 +42,12 @@ module _ {P : Type 0} (K : Kind P) (price : ℕ → ℕ → ℕ → P) (allowed 
       (λ (b : n - 1 ≤ v).
       let e : n - 1 ≡ v = omega arith in
       subst (λ z. get_or marked z 0 ≡ stay family m z) e
-      (outside (n - 1) (inr (omega arith)) ∙ last (omega arith) ∙
+      (outside (n - 1) (inr (omega arith)) ∙ last ∙
       sym (top_stays family m (n - 1) one
       (has_end 0 (n - 1) (walk K price allowed m m 0 (n - 1)) (walk_rises K price allowed m m one (omega arith) 0 (n - 1) (omega arith))))))
       (cases_lt v (n - 1)))
       (λ (a : v ≤ 0).
       let e : 0 ≡ v = omega arith in
       subst (λ z. get_or marked z 0 ≡ stay family m z) e
-      (outside 0 (inl (omega arith)) ∙ others 0 (inl (omega arith)) ∙ first (omega arith) ∙ sym (top_stays family m 0 one refl)))
+      (outside 0 (inl (omega arith)) ∙ first ∙ sym (top_stays family m 0 one refl)))
       (cases_lt 0 v)

@@ -1,5 +1,6 @@
 -- The stays of the first least family between two vertices, link by link. Assumes nothing.
-use Rattle.std.proofs.Common.{◌≡◌, ℕ, zero, suc, ◌+◌, ◌-◌, ◌<◌, ◌≤◌, Bool, true, false, cond, ◌&&◌, ◌||◌, eqb, ◌⊎◌, List, [], ◌∷◌, ◌++◌, get_or, sym, refl, ap, ◌∙◌, subst, inl, inr, ⊎_elim, add-one, arith}
+use Rattle.std.proofs.Common.{◌≡◌, ℕ, zero, suc, ◌+◌, ◌-◌, ◌<◌, ◌≤◌, Bool, true, false, ◌&&◌, ◌||◌, eqb, ◌⊎◌, List, [], ◌∷◌, ◌++◌, get_or, MatchOption, Option, Some, None, sym, refl, ap, ◌∙◌, subst, inl, inr, ⊎_elim, arith}
+use Rattle.std.specs.Option.{unwrap_or}
 use native.Mathlib.Decide.{dec_le}
 use Rattle.std.proofs.lemmas.Bool.{cases_lt, cond-true, cond-false, eq-eqb, ne_eqb}
 use Rattle.families.specs.Price.{Kind}
@@ -177,7 +178,27 @@ module _ {P : Type 0} (K : Kind P) (price : ℕ → ℕ → ℕ → P) (allowed 
         others v (⊎_elim (λ p. inl (omega (arith, u.0))) (λ w. inr w) o) ∙
         kept v (⊎_elim inl (λ w. inr (⊎_elim (λ p. inl (omega (arith, u.0))) inr w)) o)
 
-pub first_on : (t : ℕ → Bool) (v j : ℕ) → v < j → first t v (j - v) ≡ cond (t v) v (first t (v + 1) (j - (v + 1)))
-first_on t v j h =
-    let e : j - v ≡ suc (j - (v + 1)) = omega arith in
-    ap (first t v) e ∙ ap (λ w. cond (t v) v (first t w (j - (v + 1)))) (sym (add-one v))
+-- what `find` answers, as the first that passes the test
+first_told : (test : ℕ → Bool) (more v : ℕ) (r : Option ℕ) →
+    MatchOption r ((k : ℕ) → v ≤ k → k < v + more → test k ≡ false)
+    (λ w. (v ≤ w) × (w < v + more) × (test w ≡ true) × ((k : ℕ) → v ≤ k → k < w → test k ≡ false)) → unwrap_or r (v + more) ≡ first test v more
+first_told test zero v None h = omega arith
+first_told test zero v (Some w) h = absurd (omega arith)
+first_told test (suc more) v None h =
+    let e : v + suc more ≡ suc v + more = omega arith in
+    e ∙ first_told test more (suc v) None (λ k a b. h k (omega arith) (omega arith)) ∙ sym (cond-false (test v) _ _ (h v (omega arith) (omega arith)))
+first_told test (suc more) v (Some w) h =
+    ⊎_elim
+    (λ (l : v < w).
+    first_told test more (suc v) (Some w) (l, omega (arith, h.1), h.2, λ k a b. h.3 k (omega arith) b) ∙ sym (cond-false (test v) _ _ (h.3 v (omega arith) l)))
+    (λ (l : w ≤ v). let e : w ≡ v = omega arith in e ∙ sym (cond-true (test v) _ _ (subst (λ z. test z ≡ true) e h.2)))
+    (cases_lt v w)
+
+pub first_between : (test : ℕ → Bool) (low high : ℕ) → low ≤ high → (r : Option ℕ) →
+    MatchOption r ((k : ℕ) → low ≤ k → k < high → test k ≡ false)
+    (λ w. (low ≤ w) × (w < high) × (test w ≡ true) × ((k : ℕ) → low ≤ k → k < w → test k ≡ false)) → unwrap_or r high ≡ first test low (high - low)
+first_between test low high h r =
+    let e : low + (high - low) ≡ high = omega arith in
+    subst (λ end. MatchOption r ((k : ℕ) → low ≤ k → k < end → test k ≡ false)
+    (λ w. (low ≤ w) × (w < end) × (test w ≡ true) × ((k : ℕ) → low ≤ k → k < w → test k ≡ false)) → unwrap_or r end ≡ first test low (high - low)) e
+    (first_told test (high - low) low r)

@@ -1,3 +1,4 @@
+pub mod Held
 pub mod Walk
 pub mod Search
 pub mod Next

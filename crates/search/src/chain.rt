@@ -9,23 +9,14 @@ use std::alloc::{AllocError, Global};
 pub fn next_on_chain(stays: &[u8], k: usize, v: usize) -> Option<usize>
     ensures { NextOnChain (read_off (λ w. slice_index stays.now w) (length stays.now) k) v result }
 {
-    for w in v.saturating_add(1)..stays.len() {
-        if stays[w] as usize >= k {
-            return Some(w);
-        }
-    }
-    None
+    (v.saturating_add(1)..stays.len()).find(|w| stays[*w] as usize >= k)
 }
 
 // The chain of level k: the vertices whose stay is k or larger.
 pub fn read_chain(heap: Global, stays: &[u8], k: usize) -> Result<Vec<usize>, AllocError>
     ensures { IfOk result (λ chain. chain.items ≡ read_off (λ v. slice_index stays.now v) (length stays.now) k) }
 {
-    let mut chain = Vec::new(heap);
-    for (v, stay) in stays.iter().enumerate() {
-        if *stay as usize >= k {
-            chain.push(v)?;
-        }
-    }
-    Ok(chain)
+    (0..stays.len())
+        .filter(|v| stays[*v] as usize >= k)
+        .collect(heap)
 }

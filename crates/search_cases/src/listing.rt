@@ -57,10 +57,7 @@ fn cheapest<M: Measure, P: Price>(measure: &M, line: &Line, levels: &[Level; 2])
     for code in 0..81u8 {
         let stays = [2, code % 3, code / 3 % 3, code / 9 % 3, code / 27, 2];
         if let Some(sum) = total::<M, P>(measure, line, levels, &stays) {
-            best = match best {
-                None => Some(sum),
-                Some(other) => Some(cheaper(other, sum)),
-            };
+            best = Some(best.map_or(sum, |other| cheaper(other, sum)));
         }
     }
     best
@@ -92,9 +89,9 @@ fn agree<M: Measure, P: Price>(
 fn drawn(start: u32) -> [Vertex; 6] {
     let mut state = start;
     let mut vertices = [Vertex { x: 0, y: 0 }; 6];
-    for v in 0..6 {
+    for v in vertices.iter_mut() {
         state = state.wrapping_mul(1664525).wrapping_add(1013904223);
-        vertices[v] = Vertex {
+        *v = Vertex {
             x: ((state >> 16) & 15) as i16,
             y: ((state >> 24) & 15) as i16,
         };

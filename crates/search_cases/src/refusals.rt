@@ -31,16 +31,8 @@ fn refuses(
     cause: Cause,
     place: usize,
 ) -> Result<(), Fail> {
-    match answer {
-        Ok(_) => Err(Fail::new("not refused")),
-        Err(fault) => {
-            assert!(rt; fault.cause == cause);
-            assert!(rt; fault.layer == Layer::Sheet);
-            assert_eq!(rt; fault.place, place);
-            assert_eq!(rt; fault.spot, 0);
-            Ok(())
-        }
-    }
+    assert_eq!(rt; answer.err(), Some(Fault::new(cause, Layer::Sheet, place)));
+    Ok(())
 }
 
 fn level(tolerance: u32, weight: u32) -> Level {

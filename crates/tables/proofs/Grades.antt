@@ -1,14 +1,15 @@
 -- What is read off the grade table. Assumes nothing.
-use Rattle.std.proofs.Common.{◌≡◌, ℕ, ◌+◌, ◌*◌, ◌<◌, ◌≤◌, Bool, true, false, cond, ◌&&◌, T, ltb, leb, ◌⊎◌, List, length, get_or, Some, None, Option, sym, refl, ap, ◌∙◌, subst, inl, inr, ⊎_elim, arith, ltb→lt, leb→le}
-use Rattle.std.proofs.lemmas.Bool.{cases_lt}
+use Rattle.std.proofs.Common.{◌≡◌, ℕ, ◌+◌, ◌*◌, ◌<◌, ◌≤◌, Bool, true, false, cond, ◌&&◌, T, ltb, leb, List, length, get_or, Some, None, Option, sym, refl, ap, ◌∙◌, subst, inl, inr, ⊎_elim, arith, ltb→lt, leb→le}
+use Rattle.std.proofs.lemmas.Bool.{cases_lt, le-leb, lt-leb, lt-ltb}
 use Rattle.families.specs.Least.{first}
 use Rattle.families.proofs.Bools.{left, right}
-use Rattle.families.proofs.Onward.{leb_yes, leb_no, ltb_yes}
 use Rattle.families.proofs.Next.{first_range}
-use Rattle.measures.specs.Measure.{allowed_by}
-use Rattle.tables.specs.Grade.{level_in, first_level, reaches, FirstLevel, TellsFirstLevel}
+use Rattle.measures.specs.Measure.{allowed_by, level_in}
+use Rattle.tables.specs.Grade.{first_level, reaches, FirstLevel, TellsFirstLevel}
 use Rattle.tables.proofs.First.{first_passes, none_before}
+use Rattle.tables.proofs.Parts.{part_in, part_out}
 use Rattle.tables.proofs.Places.{stretch_below}
+use borrow.Rule.Slice.PartMut.{put_mid}
 
 pub yes_is : (x : Bool) → T x → x ≡ true
 yes_is true t = refl
@@ -45,8 +46,8 @@ module _ (allowed : ℕ → ℕ → ℕ → Bool) (m n i j : ℕ) where
           ⊎_elim
           (λ (h : k < first test 1 m). none_before test 1 m k p h s)
           (λ (h : first test 1 m ≤ k).
-          let u : leb 1 g ≡ true = leb_yes 1 g (omega (arith, r.0)) in
-          let w : leb g m ≡ true = leb_yes g m (omega arith) in
+          let u : leb 1 g ≡ true = le-leb 1 g (omega (arith, r.0)) in
+          let w : leb g m ≡ true = le-leb g m (omega arith) in
           let both : (leb 1 g && leb g m) ≡ true = rw (u, w) refl in
           subst T (sym both ∙ q) tt)
           (cases_lt k (first test 1 m))
@@ -63,7 +64,7 @@ module _ (allowed : ℕ → ℕ → ℕ → Bool) (m n i j : ℕ) where
           let b = ltb→lt j n (right (ltb i j) (ltb j n) t) in
           graded_level cell a b (is a b)
       go false q = λ a b k p l s.
-          let both : (ltb i j && ltb j n) ≡ true = rw (ltb_yes i j a, ltb_yes j n b) refl in
+          let both : (ltb i j && ltb j n) ≡ true = rw (lt-ltb i j a, lt-ltb j n b) refl in
           subst T (sym both ∙ q) tt
 
   -- where what a level allows the levels after it allow, the first level tells what each level allows
@@ -72,8 +73,8 @@ module _ (allowed : ℕ → ℕ → ℕ → Bool) (m n i j : ℕ) where
   reaches_allowed None f a b rise k p q = sym (no_is (test k) (f a b k p q))
   reaches_allowed (Some h) f a b rise k p q =
       ⊎_elim
-      (λ (l : k < h). leb_no h k l ∙ sym (no_is (test k) (f.5 k p l)))
-      (λ (l : h ≤ k). leb_yes h k l ∙ sym (yes_is (test k) (rise h k f.2 l q f.4)))
+      (λ (l : k < h). lt-leb h k l ∙ sym (no_is (test k) (f.5 k p l)))
+      (λ (l : h ≤ k). le-leb h k l ∙ sym (yes_is (test k) (rise h k f.2 l q f.4)))
       (cases_lt k h)
 
 pub tells : (cells : List ℕ) (n m i j : ℕ) → TellsFirstLevel cells n m i j (first_level cells n m i j)
@@ -82,37 +83,34 @@ tells cells n m i j says vs ls v l graded =
     let e : get_or cells (i * n + j) 0 ≡ cond (ltb i j) (first (λ k. allowed_by says vs ls k i j) 1 (length ls)) 0 =
     subst (λ z. get_or cells (i * z + j) 0 ≡ cond (ltb i j) (first (λ k. allowed_by says vs ls k i j) 1 (length ls)) 0) v
     (graded i j (omega arith) (omega arith)) in
-    e ∙ ap (λ x. cond x (first (λ k. allowed_by says vs ls k i j) 1 (length ls)) 0) (ltb_yes i j a)
+    e ∙ ap (λ x. cond x (first (λ k. allowed_by says vs ls k i j) 1 (length ls)) 0) (lt-ltb i j a)
     ∙ ap (first (λ k. allowed_by says vs ls k i j) 1) l)
 
--- One row more of the grade table. The code has n for the number of vertices, count.
-module _ (count n i : ℕ) where
-  pub graded_inside : (room : ℕ) → n ≡ count → i < n → n * n ≤ room → i * n + count ≤ room
-  graded_inside room e l h = let b = stretch_below n i n l in omega arith
+-- an answer that is read off the cells
+pub told : (cells : List ℕ) (n m i j : ℕ) (r : Option ℕ) → r ≡ first_level cells n m i j → TellsFirstLevel cells n m i j r
+told cells n m i j r e = subst (TellsFirstLevel cells n m i j) (sym e) (tells cells n m i j)
 
-  module _ (before after : List ℕ) (e : n ≡ count) where
-    same_place : (a j : ℕ) → a * n + j ≡ a * count + j
-    same_place a j = ap (λ z. a * z + j) e
+-- One row more of the grade table: the cells of vertex i are written and the others stay.
+pub written_fits : (n i : ℕ) → i < n → (before : List ℕ) → n * n ≤ length before → (k : ℕ) → k ≡ n → i * n + k ≤ length before
+written_fits n i inside before room k is = let b = stretch_below n i n inside in omega arith
 
-    pub graded_more : (f : ℕ → ℕ → ℕ) → ((j : ℕ) → j < count → get_or after (i * n + j) 0 ≡ f i j) →
-        ((y : ℕ) → (y < i * n) ⊎ (i * n + count ≤ y) → get_or after y 0 ≡ get_or before y 0) →
-        ((a j : ℕ) → a < i → j < count → get_or before (a * count + j) 0 ≡ f a j) →
-        (a j : ℕ) → a < i + 1 → j < count → get_or after (a * count + j) 0 ≡ f a j
-    graded_more f inside outside so_far a j l h =
-        ⊎_elim
-        (λ (p : a < i).
-        let b = stretch_below n a i p in
-        ap (λ y. get_or after y 0) (sym (same_place a j)) ∙ outside (a * n + j) (inl (omega arith)) ∙
-        ap (λ y. get_or before y 0) (same_place a j) ∙ so_far a j p h)
-        (λ (p : i ≤ a).
-        let q : i ≡ a = omega arith in
-        subst (λ z. get_or after (z * count + j) 0 ≡ f z j) q (ap (λ y. get_or after y 0) (sym (same_place i j)) ∙ inside j h))
-        (cases_lt a i)
+module _ (n i : ℕ) (inside : i < n) (before row : List ℕ) (k : ℕ) (is : k ≡ n) (len : length row ≡ k) (fits : i * n + k ≤ length before) where
+  pub graded_more : (f : ℕ → ℕ → ℕ) → ((j : ℕ) → j < k → get_or row j 0 ≡ f i j) →
+      ((a j : ℕ) → a < i → j < n → get_or before (a * n + j) 0 ≡ f a j) →
+      (a j : ℕ) → a < i + 1 → j < n → get_or (put_mid (i * n) k before row) (a * n + j) 0 ≡ f a j
+  graded_more f new so_far a j l h =
+      ⊎_elim
+      (λ (p : a < i).
+      let b = stretch_below n a i p in
+      part_out (i * n) k before row 0 len fits (a * n + j) (inl (omega arith)) ∙ so_far a j p h)
+      (λ (p : i ≤ a).
+      let q : i ≡ a = omega arith in
+      subst (λ z. get_or (put_mid (i * n) k before row) (z * n + j) 0 ≡ f z j) q
+      (part_in (i * n) k before row 0 len fits j (omega arith) ∙ new j (omega arith)))
+      (cases_lt a i)
 
-    pub graded_past : i < n → ((y : ℕ) → (y < i * n) ⊎ (i * n + count ≤ y) → get_or after y 0 ≡ get_or before y 0) →
-        (entry : List ℕ) → ((y : ℕ) → count * count ≤ y → get_or before y 0 ≡ get_or entry y 0) →
-        (y : ℕ) → count * count ≤ y → get_or after y 0 ≡ get_or entry y 0
-    graded_past l outside entry past y h =
-        let b = stretch_below n i n l in
-        let q : n * n ≡ count * count = ap (λ z. z * z) e in
-        outside y (inr (omega (arith, q))) ∙ past y h
+  pub graded_past : (entry : List ℕ) → ((y : ℕ) → n * n ≤ y → get_or before y 0 ≡ get_or entry y 0) →
+      (y : ℕ) → n * n ≤ y → get_or (put_mid (i * n) k before row) y 0 ≡ get_or entry y 0
+  graded_past entry past y h =
+      let b = stretch_below n i n inside in
+      part_out (i * n) k before row 0 len fits y (inr (omega arith)) ∙ past y h

@@ -1,5 +1,6 @@
 pub mod First
 pub mod Places
+pub mod Parts
 pub mod Cells
 pub mod Grades
 pub mod Filling

@@ -1,9 +1,8 @@
 -- What is read off the price table and put into it. Assumes nothing.
 use Rattle.std.proofs.Common.{◌≡◌, ℕ, ◌+◌, ◌-◌, ◌*◌, ◌^◌, ◌<◌, ◌≤◌, min, Bool, true, false, cond, ◌&&◌, T, ltb, leb, List, length, get_or, set, Some, None, sym, refl, ap, ◌∙◌, subst, ⊎_elim, arith, ltb→lt, leb→le}
 use Rattle.std.proofs.lemmas.List.{get_or_past, set_past, get_or-set_same, get_or-set_other}
-use Rattle.std.proofs.lemmas.Bool.{cases_lt}
+use Rattle.std.proofs.lemmas.Bool.{cases_lt, le-leb, le-ltb, lt-ltb}
 use Rattle.families.proofs.Bools.{left, right}
-use Rattle.families.proofs.Onward.{leb_yes, ltb_yes, ltb_no}
 use Rattle.tables.proofs.Cells.{placed}
 use Rattle.tables.specs.Price.{row, has_cell, cell_place, price_at, price_put, ReadsBack}
 use Rattle.tables.proofs.Places.{row_number, row_after, row_before}
@@ -68,7 +67,7 @@ module _ (n k i j : ℕ) where
             (get_or_past cells (row n k i + j) neutral past, λ z. set_past cells (row n k i + j) z past)
           where
             contra : row n k i + j < length cells → ⊥
-            contra l = subst T (sym (ltb_yes (row n k i + j) (length cells) l) ∙ q) tt
+            contra l = subst T (sym (lt-ltb (row n k i + j) (length cells) l) ∙ q) tt
         go false y q e = (refl, λ z. refl)
 
     -- what is put at a place is read back there, and nowhere else
@@ -109,15 +108,15 @@ module _ (n k i j room : ℕ) (one : 1 ≤ k) (i-in : i < n) (j-in : j < n) (x y
   ceiling = placed (k - 1) n i j x y z w p q r s ∙ ap (λ u. min (u + j) 18446744073709551615) (sym (row_number n k i))
 
   has : has_cell n k i j ≡ true
-  has = rw (leb_yes 1 k one, ltb_yes i n i-in, ltb_yes j n j-in) refl
+  has = rw (le-leb 1 k one, lt-ltb i n i-in, lt-ltb j n j-in) refl
 
   pub place_in : w < room → room < 2 ^ 64 → Some w ≡ cell_place n k i j room
   place_in l fits =
       let e : row n k i + j ≡ w = omega (arith, ceiling) in
-      let t : ltb (row n k i + j) room ≡ true = ltb_yes (row n k i + j) room (omega arith) in
+      let t : ltb (row n k i + j) room ≡ true = lt-ltb (row n k i + j) room (omega arith) in
       rw (has, t) (ap Some (sym e))
 
   pub place_out : room ≤ w → None ≡ cell_place n k i j room
   place_out l =
-      let t : ltb (row n k i + j) room ≡ false = ltb_no (row n k i + j) room (omega (arith, ceiling)) in
+      let t : ltb (row n k i + j) room ≡ false = le-ltb (row n k i + j) room (omega (arith, ceiling)) in
       rw (has, t) refl

@@ -2,7 +2,7 @@
 use Rattle.std.specs.Prelude.{◌≡◌, ℕ, ◌+◌, ◌*◌, ◌<◌, ◌≤◌, Bool, false, cond, ◌&&◌, T, List, length, Some, None, Option, nat_le, nat_lt, slice_index}
 use Rattle.lines.specs.declared.level.Level.{Level}
 use Rattle.lines.specs.declared.vertex.Vertex.{Vertex}
-use Rattle.measures.specs.Measure.{Answer, allowed_by, grade}
+use Rattle.measures.specs.Measure.{Answer, allowed_by, grade, level_in}
 
 -- What the cell of i and j holds: the grade of the link i → j, and 0 where i is not below j.
 abbrev pub grade_cell : Answer → List Vertex → List Level → ℕ → ℕ → ℕ
@@ -16,10 +16,6 @@ Graded says vs ls cells =
 -- The memory has room for the grades of n vertices, and m levels are no more than a job has.
 abbrev pub GradeRoom : ℕ → ℕ → ℕ → Type 0
 GradeRoom m n room = (m ≤ 8) × (n * n ≤ room)
-
--- A grade as a level: none unless it is one of m levels.
-abbrev pub level_in : ℕ → ℕ → Option ℕ
-level_in m g = cond (nat_le 1 g && nat_le g m) (Some g) None
 
 -- The first level that allows the link i → j, read off the cells of n vertices and m levels: none for a link that no level
 -- allows, and none for a pair that is no link.

@@ -1,3 +1,4 @@
 pub mod Grade
 pub mod Price
 pub mod Row
+pub mod Terms

@@ -1,8 +1,19 @@
 -- How the price table fills, row by row. Assumes nothing.
-use Rattle.std.specs.Prelude.{◌≡◌, ℕ, suc, ◌+◌, ◌-◌, ◌<◌, ◌≤◌, min, Bool, cond, ◌⊎◌, List, nat_le, slice_index_or}
+use Rattle.std.specs.Prelude.{◌≡◌, ℕ, suc, ◌+◌, ◌-◌, ◌*◌, ◌<◌, ◌≤◌, min, Bool, cond, ◌⊎◌, List, length, nat_le, slice_index_or}
 use Rattle.families.specs.Price.{Kind, cheaper}
 use Rattle.families.specs.Least.{L, cheapest}
+use Rattle.prices.specs.Price.{LinkPrice}
+use Rattle.tables.specs.Terms.{costs, grants}
 use Rattle.tables.specs.Price.{row}
+use Rattle.tables.specs.declared.fill.Filling.{Filling}
+
+-- How many cells a filling writes: those of all levels.
+abbrev pub room : Filling → ℕ
+room f = length f.terms.levels.now * (f.n * f.n)
+
+-- k is one of the levels of a filling, which are counted from 1.
+abbrev pub IsLevel : Filling → ℕ → Type 0
+IsLevel f k = (1 ≤ k) × (k ≤ length f.terms.levels.now)
 
 -- `price k i j` is what the link i → j costs at level k, and `allowed k i j` says whether level k allows it.
 module _ {P : Type 0} (K : Kind P) where
@@ -43,3 +54,17 @@ module _ {P : Type 0} (K : Kind P) where
     -- Every row of a table of m levels holds the least totals.
     abbrev pub TableHolds : List P → ℕ → ℕ → Type 0
     TableHolds cells n m = (k i : ℕ) → 1 ≤ k → k ≤ m → i < n → RowHolds cells n k i
+
+-- `link vs i j w` is what the link i → j of a line costs at a weight.
+module _ {P : Type 0} (K : Kind P) (link : LinkPrice P) (f : Filling) where
+  -- The rows of level k from the vertices i, i + 1, .. are filled, and so are all rows of the levels below.
+  abbrev pub Filled : List P → ℕ → ℕ → Type 0
+  Filled cells k i = RowsHold K (costs link f.terms) (grants f.terms) cells f.n k i
+
+  -- The row of level k from vertex i once the candidates before v are taken in.
+  abbrev pub Begun : List P → ℕ → ℕ → ℕ → Type 0
+  Begun cells k i v = RowSoFar K (costs link f.terms) (grants f.terms) cells f.n k i v
+
+-- The cells outside the row of level k from vertex i are as they were.
+abbrev pub OnlyRow : {P : Type 0} → Kind P → Filling → List P → List P → ℕ → ℕ → Type 0
+OnlyRow K f before after k i = KeptOutside K before after (row f.n k i) (row f.n k i + f.n)

@@ -1,4 +1,4 @@
-ghost use Rattle.std.specs.Prelude.{◌≡◌, ℕ, ◌+◌, ◌*◌, ◌<◌, ◌≤◌, ◌⊎◌, length, slice_index};
+ghost use Rattle.std.specs.Prelude.{◌≡◌, ℕ, ◌+◌, ◌*◌, ◌<◌, ◌≤◌, length, slice_index, MatchOption};
 ghost use Rattle.tables.specs.Grade.{grade_cell, Graded, GradeRoom, first_level, TellsFirstLevel};
 
 use lines::level::Level;
@@ -24,30 +24,12 @@ impl<'a> GradeTable<'a> {
         GradeTable { cells, n, m }
     }
 
-    // The cell of i and j; 0 where that lies past the memory.
-    fn cell(&self, i: usize, j: usize) -> u8
-        ensures { result ≡ slice_index self.now.cells.now (i * self.now.n + j) }
+    // The cell of i and j; none where that lies past the memory.
+    fn cell(&self, i: usize, j: usize) -> Option<u8>
+        ensures { MatchOption result (length self.now.cells.now ≤ i * self.now.n + j) (λ grade. (i * self.now.n + j < length self.now.cells.now) × (grade ≡ slice_index self.now.cells.now (i * self.now.n + j))) }
     {
         let place = i.saturating_mul(self.n).saturating_add(j);
-        if place < self.cells.len() {
-            self.cells[place]
-        } else {
-            0
-        }
-    }
-
-    // The first level, by the cell of a link.
-    fn level_at(&self, i: usize, j: usize) -> Option<usize>
-        ensures { result ≡ first_level self.now.cells.now self.now.n self.now.m i j }
-    {
-        if i >= j || j >= self.n {
-            return None;
-        }
-        let grade = self.cell(i, j) as usize;
-        if grade < 1 || grade > self.m {
-            return None;
-        }
-        Some(grade)
+        self.cells.get(place).copied()
     }
 
     // The first level that allows the link from i to j: none for a link that no level allows, and for a pair that is no link.
@@ -55,37 +37,45 @@ impl<'a> GradeTable<'a> {
         ensures answer { result ≡ first_level self.now.cells.now self.now.n self.now.m i j }
         ensures tells_first_level { TellsFirstLevel self.now.cells.now self.now.n self.now.m i j result }
     {
-        self.level_at(i, j)
+        if i >= j || j >= self.n {
+            return None;
+        }
+        let grade = self.cell(i, j)? as usize;
+        if grade < 1 || grade > self.m {
+            return None;
+        }
+        Some(grade)
     }
 }
 
-// What the cell of i and j holds.
-fn grade_cell<M: Measure>(measure: &M, line: &Line, levels: &[Level], i: usize, j: usize) -> u8
-    requires { length levels.now ≤ 8 }
-    ensures { result ≡ grade_cell (M.Measure.says measure.now) line.now.vertices.now levels.now i j }
-{
-    if i >= j {
-        return 0;
-    }
-    measure.grade(line, levels, i, j) as u8
+// The grading of a line under a measure, for no more levels than a job has.
+#[derive(Drop)]
+struct Grading<'a, M> {
+    measure: &'a M,
+    line: Line<'a>,
+    levels: &'a [Level],
+    ghost few: { length levels.now ≤ 8 },
 }
 
-// Fills the n cells from `start` on with those of vertex i.
-fn grade_row<M: Measure>(
-    measure: &M,
-    line: &Line,
-    levels: &[Level],
-    cells: &mut [u8],
-    i: usize,
-    start: usize,
-)
-    requires { (length levels.now ≤ 8) × (start + length line.now.vertices.now ≤ length cells.old) }
-    ensures inside { (j : ℕ) → j < length line.now.vertices.now → slice_index cells.new (start + j) ≡ grade_cell (M.Measure.says measure.now) line.now.vertices.now levels.now i j }
-    ensures outside { (y : ℕ) → (y < start) ⊎ (start + length line.now.vertices.now ≤ y) → slice_index cells.new y ≡ slice_index cells.old y }
-{
-    for j in 0..line.count() {
-        let cell = grade_cell(measure, line, levels, i, j);
-        cells[start + j] = cell;
+impl<'a, M: Measure> Grading<'a, M> {
+    // What the cell of i and j holds. `is_link` asks for more than i < j, which alone decides between 0 and a grade.
+    fn cell(&self, i: usize, j: usize) -> u8
+        ensures { result ≡ grade_cell (M.Measure.says self.now.measure.now) self.now.line.vertices.now self.now.levels.now i j }
+    {
+        if i >= j {
+            return 0;
+        }
+        let first = self.measure.first_level(&self.line, self.levels, i, j);
+        first.unwrap_or(self.levels.len() + 1) as u8
+    }
+
+    // Fills a row with the cells of vertex i.
+    fn fill_row(&self, i: usize, row: &mut [u8])
+        ensures { (j : ℕ) → j < length row.old → slice_index row.new j ≡ grade_cell (M.Measure.says self.now.measure.now) self.now.line.vertices.now self.now.levels.now i j }
+    {
+        for (j, cell) in row.iter_mut().enumerate() {
+            *cell = self.cell(i, j);
+        }
     }
 }
 
@@ -100,7 +90,13 @@ pub fn grade_links<M: Measure>(measure: &M, line: &Line, levels: &[Level], cells
     if levels.len() > 8 || n * n > cells.len() {
         return;
     }
+    let grading = Grading {
+        measure,
+        line: *line,
+        levels,
+    };
+    // Tried with `chunks_exact_mut`: while it lends the rows, no invariant can speak of the cells written so far.
     for i in 0..n {
-        grade_row(measure, line, levels, cells, i, i * n);
+        grading.fill_row(i, &mut cells[i * n..i * n + n]);
     }
 }

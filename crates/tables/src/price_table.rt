@@ -4,8 +4,9 @@ ghost use Rattle.tables.specs.Grade.{by_grade};
 ghost use Rattle.tables.specs.Price.{cell_place, price_at, price_put, ReadsBack, PriceRoom};
 ghost use Rattle.tables.specs.Row.{KeptOutside, TableHolds};
 
+use crate::fill::Filling;
 use crate::grade_table::GradeTable;
-use crate::rows::fill_levels;
+use crate::terms::Terms;
 use lines::level::Level;
 use lines::line::Line;
 use prices::price::Price;
@@ -15,34 +16,6 @@ use prices::price::Price;
 pub struct PriceTable<'a, P> {
     cells: &'a mut [P],
     n: usize,
-}
-
-// Where the cell of level k from i to j lies in a memory of `room` cells for n vertices, if it has it.
-fn place(n: usize, k: usize, i: usize, j: usize, room: usize) -> Option<usize>
-    ensures { result ≡ cell_place n k i j room }
-{
-    if k < 1 || i >= n || j >= n {
-        return None;
-    }
-    let row = (k - 1).saturating_mul(n).saturating_add(i);
-    let place = row.saturating_mul(n).saturating_add(j);
-    if place < room { Some(place) } else { None }
-}
-
-// The cell at a place.
-fn cell<P: Price>(cells: &[P], place: usize) -> P
-    requires { place < length cells.now }
-    ensures { result ≡ slice_index_or cells.now place P.kind.neutral }
-{
-    cells[place]
-}
-
-// Puts a price at a place.
-fn set_cell<P: Price>(cells: &mut [P], place: usize, price: P)
-    requires { place < length cells.old }
-    ensures { cells.new ≡ slice_set cells.old place price }
-{
-    cells[place] = price;
 }
 
 impl<'a, P: Price> PriceTable<'a, P> {
@@ -55,12 +28,29 @@ impl<'a, P: Price> PriceTable<'a, P> {
         PriceTable { cells, n }
     }
 
+    // Where the cell of level k from i to j lies in the memory, if it has it.
+    fn place(&self, k: usize, i: usize, j: usize) -> Option<usize>
+        ensures { result ≡ cell_place self.now.n k i j (length self.now.cells.now) }
+    {
+        let n = self.n;
+        if k < 1 || i >= n || j >= n {
+            return None;
+        }
+        let row = (k - 1).saturating_mul(n).saturating_add(i);
+        let place = row.saturating_mul(n).saturating_add(j);
+        if place < self.cells.len() {
+            Some(place)
+        } else {
+            None
+        }
+    }
+
     // The price at level k from i to j. It is neutral at level 0, where i or j is no vertex, and past the memory.
     pub fn get(&self, k: usize, i: usize, j: usize) -> P
         ensures { result ≡ price_at P.kind.neutral self.now.cells.now self.now.n k i j }
     {
-        match place(self.n, k, i, j, self.cells.len()) {
-            Some(place) => cell(self.cells, place),
+        match self.place(k, i, j) {
+            Some(place) => self.cells[place],
             None => P::neutral(),
         }
     }
@@ -72,8 +62,8 @@ impl<'a, P: Price> PriceTable<'a, P> {
         ensures n { self.new.n ≡ self.old.n }
         ensures lender { self.new.cells.ghost_name ≡ self.old.cells.ghost_name }
     {
-        if let Some(place) = place(self.n, k, i, j, self.cells.len()) {
-            set_cell(self.cells, place, price);
+        if let Some(place) = self.place(k, i, j) {
+            self.cells[place] = price;
         }
     }
 
@@ -91,6 +81,12 @@ impl<'a, P: Price> PriceTable<'a, P> {
         if n > 256 || m > 8 || m * n * n > self.cells.len() {
             return;
         }
-        fill_levels(line, levels, grades, self.cells, n);
+        let terms = Terms {
+            line: *line,
+            levels,
+            grades: *grades,
+        };
+        let filling = Filling { terms, n };
+        filling.fill_levels(self.cells);
     }
 }

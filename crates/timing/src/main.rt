@@ -16,7 +16,7 @@ use measures::strip::Strip;
 use prices::count::Count;
 use prices::count_then_area::CountThenArea;
 use prices::price::Price;
-use run::{Task, timed};
+use run::{Run, Task};
 use std::{env, io};
 use walk::draw_lines;
 
@@ -35,8 +35,8 @@ fn eight_levels(first: u32, factor: u32) -> [Level; 8] {
         weight: 1,
     }; 8];
     let mut tolerance = first;
-    for k in 0..8 {
-        levels[k].tolerance = tolerance;
+    for level in levels.iter_mut() {
+        level.tolerance = tolerance;
         tolerance = tolerance.saturating_mul(factor);
     }
     levels
@@ -63,9 +63,9 @@ fn all_measures<P: Price>(
 ) -> io::Result<()> {
     let plane = eight_levels(8, 2);
     let area = eight_levels(500, 4);
-    timed(rt, "segment", price, &Segment, task, all, &plane, prices)?;
-    timed(rt, "strip", price, &Strip, task, all, &plane, prices)?;
-    timed(rt, "area", price, &Area, task, all, &area, prices)
+    Run::new(&Segment, task, all, &plane).time(rt, "segment", price, prices)?;
+    Run::new(&Strip, task, all, &plane).time(rt, "strip", price, prices)?;
+    Run::new(&Area, task, all, &area).time(rt, "area", price, prices)
 }
 
 fn main(rt: HostRuntime) -> anyhow::Result<()> {

@@ -29,70 +29,76 @@ impl Task {
     }
 }
 
-// Grades every line once.
-fn grade_all<M: Measure>(
-    measure: &M,
-    n: usize,
-    all: &[Vertex],
-    levels: &[Level],
-    grades: &mut [u8],
-) {
-    for part in all.chunks(n.max(1)) {
-        let mut line = Line::built_in();
-        let _ = line.make(part);
-        grade_links(measure, &line, levels, grades);
-    }
+// The lines of a task, end to end, and the measure and the levels that they are searched under.
+#[derive(Drop)]
+pub struct Run<'a, M> {
+    measure: &'a M,
+    task: Task,
+    all: &'a [Vertex],
+    levels: &'a [Level],
 }
 
-// Searches every line once, and answers the sums of the two numbers of the totals.
-fn search_all<M: Measure, P: Price>(
-    measure: &M,
-    n: usize,
-    all: &[Vertex],
-    levels: &[Level],
-    grades: &mut [u8],
-    prices: &mut [P],
-    stays: &mut [u8],
-) -> (u64, u64) {
-    let mut first = 0u64;
-    let mut second = 0u64;
-    for part in all.chunks(n.max(1)) {
-        let mut line = Line::built_in();
-        let _ = line.make(part);
-        if let Ok(total) = find_least(measure, &line, levels, grades, prices, stays) {
-            let (f, s) = total.form();
-            first = first.wrapping_add(u64::from(f));
-            second = second.wrapping_add(s);
+impl<'a, M: Measure> Run<'a, M> {
+    pub fn new(measure: &'a M, task: Task, all: &'a [Vertex], levels: &'a [Level]) -> Run<'a, M> {
+        let m = task.levels.min(levels.len());
+        Run {
+            measure,
+            task,
+            all,
+            levels: &levels[..m],
         }
     }
-    (first, second)
-}
 
-// Prints the sums of a run and, if asked for, the microseconds that grading and the whole search took.
-pub fn timed<M: Measure, P: Price>(
-    rt: &HostRuntime,
-    name: &str,
-    price: &str,
-    measure: &M,
-    task: Task,
-    all: &[Vertex],
-    levels: &[Level],
-    prices: &mut [P],
-) -> io::Result<()> {
-    let mut grades = [0u8; 65536];
-    let mut stays = [0u8; 256];
-    let n = task.vertices;
-    let m = task.levels.min(levels.len());
-    let levels = &levels[0..m];
-    let start = Instant::now(rt)?;
-    grade_all(measure, n, all, levels, &mut grades);
-    let grading = start.elapsed(rt)?.as_micros();
-    let start = Instant::now(rt)?;
-    let (first, second) = search_all(measure, n, all, levels, &mut grades, prices, &mut stays);
-    let whole = start.elapsed(rt)?.as_micros();
-    println!(rt; "{name} {price} total {first} {second}")?;
-    if task.shown {
-        println!(rt; "{name} {price} grading {grading} whole {whole}")?;
+    // Grades every line once.
+    fn grade_all(&self, grades: &mut [u8]) {
+        for part in self.all.chunks(self.task.vertices.max(1)) {
+            let mut line = Line::built_in();
+            let _ = line.make(part);
+            grade_links(self.measure, &line, self.levels, grades);
+        }
     }
-    Ok(())
+
+    // Searches every line once, and answers the sums of the two numbers of the totals.
+    fn search_all<P: Price>(
+        &self,
+        grades: &mut [u8],
+        prices: &mut [P],
+        stays: &mut [u8],
+    ) -> (u64, u64) {
+        let mut first = 0u64;
+        let mut second = 0u64;
+        for part in self.all.chunks(self.task.vertices.max(1)) {
+            let mut line = Line::built_in();
+            let _ = line.make(part);
+            if let Ok(total) = find_least(self.measure, &line, self.levels, grades, prices, stays) {
+                let (f, s) = total.form();
+                first = first.wrapping_add(u64::from(f));
+                second = second.wrapping_add(s);
+            }
+        }
+        (first, second)
+    }
+
+    // Prints the sums of the run and, if asked for, the microseconds that grading and the whole search took.
+    pub fn time<P: Price>(
+        &self,
+        rt: &HostRuntime,
+        name: &str,
+        price: &str,
+        prices: &mut [P],
+    ) -> io::Result<()> {
+        let mut grades = [0u8; 65536];
+        let mut stays = [0u8; 256];
+        let start = Instant::now(rt)?;
+        self.grade_all(&mut grades);
+        let grading = start.elapsed(rt)?.as_micros();
+        let start = Instant::now(rt)?;
+        let (first, second) = self.search_all(&mut grades, prices, &mut stays);
+        let whole = start.elapsed(rt)?.as_micros();
+        println!(rt; "{name} {price} total {first} {second}")?;
+        if self.task.shown {
+            println!(rt; "{name} {price} grading {grading} whole {whole}")?;
+        }
+        Ok(())
+    }
 }

@@ -1,32 +1,54 @@
-use Rattle.std.proofs.Common.{Some, None, arith, ◌+◌, ◌-◌, ◌*◌, ◌/◌, ◌%◌, length, drop, vec_items, sym, ap, ◌∙◌, inl, inr, ⊎_elim}
-use Rattle.std.proofs.lemmas.Bool.{cond-true, eq-eqb}
-use Rattle.std.proofs.lemmas.Grind.{common_steps}
-use Rattle.hexadecimal.specs.Hex.{bytes_of}
-use Rattle.hexadecimal.proofs.Digits.{behind, no_digit, one_byte}
+use Rattle.std.proofs.Common.{◌≡◌, ◌<◌, ◌%◌, length, Some, None, sym, ap, ◌∙◌, vec_items, arith, rules}
+use Rattle.std.specs.Slice.Iter.{chunks_exact_rest}
+use Rattle.hexadecimal.specs.Hex.{unhexed}
+use Rattle.hexadecimal.proofs.Pairs.{behind, from_start, odd_none, no_byte, one_byte, still_even, all_read}
 use Rattle.hexadecimal.proofs.Written.{reads}
 use Rattle.hexadecimal.proofs.unhex.Goals as goal
 
-pub returns-then-high-ge16-clause-answer : goal.returns-then-high-ge16-clause-answer
-returns-then-high-ge16-clause-answer c =
-    let text = c.args.text.now in
-    sym (no_digit (length text / 2) c.loop-i.i text (vec_items c.loop-i.bytes) c.loop-i-test.true c.digit-high.result c.digit-low.result c.digit-high.ensures.value c.digit-low.ensures.value
-    (⊎_elim inl (λ b. inr b.1) c.then-high-ge16.either))
-    ∙ c.loop-i.invariant ∙ sym (cond-true _ _ _ (eq-eqb (length text % 2) 0 c.if-text-ne0.false))
+pub returns-then-text-ne0-clause-answer : goal.returns-then-text-ne0-clause-answer
+returns-then-text-ne0-clause-answer c = odd_none c.args.text.now c.if-text-ne0.true
 
 pub returns-then-text-ne0-clause-reads_exactly_what_is_written : goal.returns-then-text-ne0-clause-reads_exactly_what_is_written
-returns-then-text-ne0-clause-reads_exactly_what_is_written c = reads c.args.text.now None (grind (arith, common_steps))
+returns-then-text-ne0-clause-reads_exactly_what_is_written c = reads c.args.text.now None (returns-then-text-ne0-clause-answer c)
 
-pub returns-then-high-ge16-clause-reads_exactly_what_is_written : goal.returns-then-high-ge16-clause-reads_exactly_what_is_written
-returns-then-high-ge16-clause-reads_exactly_what_is_written c = reads c.args.text.now None (returns-then-high-ge16-clause-answer c)
+pub loop-pair-init : goal.loop-pair-init
+loop-pair-init c =
+    let all : chunks_exact_rest c.into_iter-pair-iterator.result ≡ c.args.text.now = search rules in
+    record {
+      size = search rules;
+      even = ap (λ r. length r % 2) all ∙ c.if-text-ne0.false;
+      read = from_start (vec_items c.new-bytes.result) _ c.new-bytes.ensures.items ∙ ap unhexed all;
+    }
+
+pub returns-in_default-clause-answer : goal.returns-in_default-clause-answer
+returns-in_default-clause-answer c =
+    let step = c.in-Some.ensures.steps in
+    let before = vec_items c.loop-pair.bytes in
+    sym (no_byte before c.in-Some.pair.now (chunks_exact_rest c.next.new.self) (step.1.1 ∙ c.loop-pair.invariant.size) (sym c.byte.ensures ∙ c.in_default.is)) ∙
+    ap (λ r. behind before (unhexed r)) (sym step.1.0) ∙ c.loop-pair.invariant.read
+
+pub returns-in_default-clause-reads_exactly_what_is_written : goal.returns-in_default-clause-reads_exactly_what_is_written
+returns-in_default-clause-reads_exactly_what_is_written c = reads c.args.text.now None (returns-in_default-clause-answer c)
+
+pub loop-pair-preserved : goal.loop-pair-preserved
+loop-pair-preserved c =
+    let step = c.in-Some.ensures.steps in
+    let before = vec_items c.loop-pair.bytes in
+    let rest = chunks_exact_rest c.next.new.self in
+    let two : length c.in-Some.pair.now ≡ 2 = step.1.1 ∙ c.loop-pair.invariant.size in
+    record {
+      size = step.0 ∙ c.loop-pair.invariant.size;
+      even = still_even (chunks_exact_rest c.loop-pair.pair-iterator) c.in-Some.pair.now rest step.1.0 two c.loop-pair.invariant.even;
+      read =
+          ap (λ bs. behind bs (unhexed rest)) c.in_ok-push.ensures.items ∙
+          sym (one_byte before c.in-Some.pair.now rest c.in-Some-byte.byte two (sym c.byte.ensures ∙ c.in-Some-byte.is)) ∙
+          ap (λ r. behind before (unhexed r)) (sym step.1.0) ∙ c.loop-pair.invariant.read;
+    }
+
+pub returns-clause-answer : goal.returns-clause-answer
+returns-clause-answer c =
+    let short : length (chunks_exact_rest c.loop-pair.pair-iterator) < 2 = omega (arith, c.in-None.ensures.steps.1.0, c.loop-pair.invariant.size) in
+    sym (all_read (vec_items c.loop-pair.bytes) _ short c.loop-pair.invariant.even) ∙ c.loop-pair.invariant.read
 
 pub returns-clause-reads_exactly_what_is_written : goal.returns-clause-reads_exactly_what_is_written
-returns-clause-reads_exactly_what_is_written c = reads c.args.text.now (Some (vec_items c.loop-i.bytes)) (grind (arith, common_steps))
-
-pub loop-i-preserved : goal.loop-i-preserved
-loop-i-preserved c =
-    let text = c.args.text.now in
-    let n = length text / 2 in
-    let i = c.loop-i.i in
-    ap (λ read. behind read (bytes_of (n - (i + 1)) (drop (2 * (i + 1)) text))) c.in_ok-push.ensures.items
-    ∙ sym (one_byte n i text (vec_items c.loop-i.bytes) c.loop-i-test.true c.digit-high.result c.digit-low.result c.digit-high.ensures.value c.digit-low.ensures.value c.if-high-ge16.false c.if-low-ge16.false)
-    ∙ c.loop-i.invariant
+returns-clause-reads_exactly_what_is_written c = reads c.args.text.now (Some (vec_items c.loop-pair.bytes)) (returns-clause-answer c)

@@ -8,7 +8,7 @@ use Rattle.drawings.proofs.pack.draw_line.Goals as goal
 
 pub returns-in_err-total : goal.returns-in_err-total
 returns-in_err-total g c =
-    let able = searchable g.M.Measure.largest c.args.line.now.vertices.now c.args.levels.now _ _ _ c.args.line.now.lawful c.requires
+    let able = searchable g.M.Measure.LARGEST c.args.line.now.vertices.now c.args.levels.now _ _ _ c.args.line.now.lawful c.requires
     (ap length c.as_mut_slice.ensures.value ∙ c.in_ok-grades.ensures)
     (ap length c.as_mut_slice-2.ensures.value ∙ c.in_ok-prices.ensures)
     (ap length c.as_mut_slice-3.ensures.value ∙ c.in_ok-stays.ensures) in

@@ -1,6 +1,6 @@
-use Rattle.std.proofs.Common.{◌≡◌, ◌-◌, ◌*◌, ◌≤◌, nat_abs}
-use Rattle.lines.specs.Area.{walked}
+use Rattle.std.proofs.Common.{◌≡◌}
+use Rattle.lines.proofs.Areas.{Walking, along}
 use Rattle.lines.proofs.area.link_area.Given as goal
 
-abbrev pub invariant-loop-k : goal.invariant-loop-k
-invariant-loop-k l = (l.sum ≡ walked l.vertices l.i (l.k - l.i)) × (nat_abs l.sum ≤ (l.k - l.i) * 2147483648)
+abbrev pub invariant-loop-ends : goal.invariant-loop-ends
+invariant-loop-ends l = (l.ends-iterator.size ≡ 2) × Walking l.vertices l.i (along l.vertices l.i l.j) l.ends-iterator.rest.now l.sum

@@ -1,4 +1,4 @@
-use Rattle.std.proofs.Common.{◌≡◌, ◌+◌, false, ◌&&◌, leb, get_or, sym, ◌∙◌, arith}
+use Rattle.std.proofs.Common.{◌≡◌, ◌+◌, false, ◌&&◌, leb, get_or, Err, sym, ap, ◌∙◌, arith}
 use Rattle.std.proofs.lemmas.List.{at_drop_all}
 use Rattle.std.proofs.lemmas.Bool.Decides.{nat_tests}
 use Rattle.lines.specs.Level.{level, judged_from}
@@ -12,7 +12,7 @@ returns-then-l-least c =
     let l = get_or ls c.loop-i.i (level 0 0) in
     let b : (leb c.loop-i.least l.tolerance && leb l.tolerance c.args.largest) ≡ false =
     elim c.then-l-least.branch [ then-l-least-via-then-l-least w ↦ grind (arith, nat_tests) | then-l-least-via-else-l-least+then-l-largest w ↦ grind (arith, nat_tests) ] in
-    let e = sym (bad_tolerance c.args.largest c.args.layer c.loop-i.least c.loop-i.i ls c.loop-i-test.true b) ∙ c.loop-i.invariant.0 in
+    let e = ap Err c.new.ensures ∙ sym (bad_tolerance c.args.largest c.args.layer c.loop-i.least c.loop-i.i ls c.loop-i-test.true b) ∙ c.loop-i.invariant.0 in
     record { answer = e; lawful = lawful_from c.args.largest c.args.layer ls _ e }
 
 pub returns-then-l-lt1 : goal.returns-then-l-lt1
@@ -21,7 +21,7 @@ returns-then-l-lt1 c =
     let l = get_or ls c.loop-i.i (level 0 0) in
     let b : (leb 1 l.weight && leb l.weight 1000) ≡ false =
     elim c.then-l-lt1.branch [ then-l-lt1-via-then-l-lt1 w ↦ grind (arith, nat_tests) | then-l-lt1-via-else-l-lt1+then-l-gt1000 w ↦ grind (arith, nat_tests) ] in
-    let e = sym (bad_weight c.args.largest c.args.layer c.loop-i.least c.loop-i.i ls c.loop-i-test.true (grind (arith, nat_tests)) b) ∙ c.loop-i.invariant.0 in
+    let e = ap Err c.new-then-l-lt1.ensures ∙ sym (bad_weight c.args.largest c.args.layer c.loop-i.least c.loop-i.i ls c.loop-i-test.true (grind (arith, nat_tests)) b) ∙ c.loop-i.invariant.0 in
     record { answer = e; lawful = lawful_from c.args.largest c.args.layer ls _ e }
 
 pub loop-i-preserved : goal.loop-i-preserved

@@ -1,24 +1,19 @@
-use Rattle.std.proofs.Common.{ℕ, Bool, sym, ◌∙◌, arith}
-use Rattle.std.proofs.lemmas.List.{at_drop_all}
-use Rattle.families.specs.Chain.{links}
-use Rattle.marker.specs.Records.{numbers}
-use Rattle.marker.specs.Judge.{first_failing}
-use Rattle.marker.proofs.Numbers.{length_numbers_links, forbidden_here, forbidden_further}
+use Rattle.std.proofs.Common.{ℕ, Bool, not, ap, ◌∙◌, rules, tests}
+use Rattle.std.specs.List.{position_from}
+use Rattle.std.proofs.lemmas.Iterator.{YieldsList-from_slice, YieldsList-from_map, YieldsList-from_zip}
+use Rattle.std.proofs.lemmas.Iterator.Adapters.{position_from-zero, YieldsList-from_skip}
+use Rattle.std.proofs.lemmas.Iterator.Consumers.{YieldsList-at}
+use Rattle.std.proofs.lemmas.Iterator.Search.{position_from_yields_List}
+use Rattle.packs.specs.Bytes.{little}
+use Rattle.marker.proofs.Numbers.{zip_links}
 use Rattle.marker.proofs.level.first_forbidden.Goals as goal
-
-pub returns-then-not-allows : goal.returns-then-not-allows
-returns-then-not-allows g c =
-    let allowed : ℕ → ℕ → Bool = λ i j. g.M.Measure.says c.args.measure.now c.args.line.now.vertices.now i j c.args.t in
-    sym (forbidden_here c.args.body.now c.loop-i.i c.number.result c.number-in-loop-i.result (omega arith) c.number.ensures.value c.number-in-loop-i.ensures.value allowed
-    c.if-not-allows.ensures) ∙ c.loop-i.invariant
-
-pub loop-i-preserved : goal.loop-i-preserved
-loop-i-preserved g c =
-    let allowed : ℕ → ℕ → Bool = λ i j. g.M.Measure.says c.args.measure.now c.args.line.now.vertices.now i j c.args.t in
-    sym (forbidden_further c.args.body.now c.loop-i.i c.number.result c.number-in-loop-i.result (omega arith) c.number.ensures.value c.number-in-loop-i.ensures.value allowed
-    c.if-not-allows.ensures) ∙ c.loop-i.invariant
 
 pub returns : goal.returns
 returns g c =
-    let allowed : ℕ → ℕ → Bool = λ i j. g.M.Measure.says c.args.measure.now c.args.line.now.vertices.now i j c.args.t in
-    sym (at_drop_all (first_failing (λ p. allowed p.0 p.1) c.loop-i.i) (links (numbers c.args.body.now)) c.loop-i.i (omega (arith, length_numbers_links c.args.body.now))) ∙ c.loop-i.invariant
+    let ps = c.args.chain.numbers.now in
+    let forbids : ℕ × ℕ → Bool = λ l. not (g.M.Measure.says c.args.measure.now c.args.line.now.vertices.now l.0 l.1 c.args.t) in
+    position_from_yields_List forbids c.position.new.self _ c.position.result c.position.ensures.ran
+    (YieldsList-from_zip (YieldsList-at c.zip.ensures.first (YieldsList-from_map _ little (YieldsList-from_slice ps cc) c.map-from.ensures.closure (λ x r q k. search rules)))
+    (YieldsList-at c.zip.ensures.second (YieldsList-from_map _ little (YieldsList-at c.map-to.ensures.source (YieldsList-from_skip 1 (YieldsList-from_slice ps (cc)) c.skip.ensures.count)) c.map-to.ensures.closure (λ x r q k. search rules))))
+    (λ x b q k. search (rules, tests))
+    ∙ position_from-zero forbids _ ∙ ap (position_from forbids 0) (zip_links ps)

@@ -1,5 +1,6 @@
 use Rattle.std.proofs.Common.{Err, sym, ap, ◌∙◌}
 use Rattle.std.proofs.lemmas.Result.{err_from_is_err_and}
+use Rattle.std.proofs.lemmas.List.{take_rest}
 use Rattle.marker.specs.Pack.{place_marked}
 use Rattle.marker.proofs.Heads.{head_read, marked_so, head_refused}
 use Rattle.marker.proofs.Packs.{marks_packs}
@@ -13,11 +14,6 @@ returns-in_err-job c =
       valid_exactly_for_true_families = marks_packs c.args.bytes.now (λ i. (c.type_inv.bytes i).fits);
     }
 
-pub rest-requires : goal.rest-requires
-rest-requires c =
-    let read = c.read_family_head in
-    (head_read c.args.bytes.now c.in_ok-job.job c.in_ok-job.end _ _ _ _ c.in_ok-job.ensures.answer read.ensures.accepts_exactly_lawful_heads read.ensures.vertices read.ensures.levels).inside
-
 pub mark_job-requires : goal.mark_job-requires
 mark_job-requires c =
     let read = c.read_family_head in
@@ -28,7 +24,7 @@ returns c =
     let read = c.read_family_head in
     let h = head_read c.args.bytes.now c.in_ok-job.job c.in_ok-job.end _ _ _ _ c.in_ok-job.ensures.answer read.ensures.accepts_exactly_lawful_heads read.ensures.vertices read.ensures.levels in
     record {
-      answer = c.mark_job.ensures ∙ ap (place_marked read.new.place.vertices read.new.place.levels c.in_ok-job.job) c.rest.ensures
+      answer = c.mark_job.ensures ∙ ap (place_marked read.new.place.vertices read.new.place.levels c.in_ok-job.job) (take_rest c.args.bytes.now c.in_ok-job.end)
           ∙ marked_so c.args.bytes.now c.in_ok-job.job c.in_ok-job.end _ _ h;
       valid_exactly_for_true_families = marks_packs c.args.bytes.now (λ i. (c.type_inv.bytes i).fits);
     }

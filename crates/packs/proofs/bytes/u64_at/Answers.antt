@@ -1,10 +1,6 @@
-use Rattle.std.proofs.Common.{arith}
-use Rattle.packs.proofs.Fields.{field_four, stopped}
+use Rattle.std.proofs.Common.{◌∙◌}
+use Rattle.packs.proofs.Fields.{from_part}
 use Rattle.packs.proofs.bytes.u64_at.Goals as goal
 
 pub returns : goal.returns
-returns c =
-    let bs = c.args.bytes.now in
-    let a = field_four c.args.at bs in
-    let d = stopped 4 c.args.at 4 c.saturating_add.result bs (omega arith) c.saturating_add.ensures in
-    omega arith
+returns c = c.from_le_bytes.ensures ∙ from_part 7 c.args.at c.args.bytes.now c.part.result c.part.ensures

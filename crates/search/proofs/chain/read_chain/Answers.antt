@@ -1,18 +1,13 @@
-use Rattle.std.proofs.Common.{ℕ, ◌<◌, ◌≤◌, length, get_or, vec_items, ap, ◌∙◌, arith}
-use Rattle.families.specs.Stay.{read_off}
-use Rattle.search.proofs.Staying.{gathered_kept, gathered_left}
+use Rattle.std.proofs.Common.{◌≡◌, ℕ, ◌-◌, IfOk, length, get_or, nat_le, subst, arith, rules}
+use Rattle.std.proofs.lemmas.Iterator.{YieldsList-from_range, items_from_collect}
+use Rattle.std.proofs.lemmas.Iterator.Consumers.{YieldsList-from_filter}
+use Rattle.search.proofs.Staying.{staying_filter}
 use Rattle.search.proofs.chain.read_chain.Goals as goal
-use Rattle.search.proofs.chain.read_chain.Goals.{then-stay-k+in_ok-push, else-stay-k}
 
-pub loop-v-preserved : goal.loop-v-preserved
-loop-v-preserved c =
+pub returns : goal.returns
+returns c =
     let stays = λ (v : ℕ). get_or c.args.stays.now v 0 in
     let n = length c.args.stays.now in
-    let k = c.args.k in
-    let whole = read_off stays n k in
-    elim c.if-stay-k.branch [
-      | then-stay-k+in_ok-push w ↦
-          gathered_kept stays k c.loop-v.v n c.loop-v-test.true whole (vec_items c.loop-v.chain) (vec_items c.if-stay-k.chain) c.loop-v.invariant (let kept : k ≤ get_or c.args.stays.now c.loop-v.v 0 = omega (arith, w.if-stay-k.true) in kept) (ap vec_items w.chain-is ∙ w.in_ok-push.ensures.items)
-      | else-stay-k w ↦
-          gathered_left stays k c.loop-v.v n c.loop-v-test.true whole (vec_items c.loop-v.chain) (vec_items c.if-stay-k.chain) c.loop-v.invariant (let left : get_or c.args.stays.now c.loop-v.v 0 < k = omega (arith, w.if-stay-k.false) in left) (ap vec_items w.chain-is)
-    ]
+    let all : n - 0 ≡ n = omega arith in
+    let e = items_from_collect c.collect.result c.collect.ensures.ran (YieldsList-from_filter _ (λ v. nat_le c.args.k (stays v)) (YieldsList-from_range 0 n n c.filter.ensures.source all) c.filter.ensures.closure (λ x r q h. search rules)) in
+    subst (λ us. IfOk c.collect.result (λ chain. chain.items ≡ us)) (staying_filter stays c.args.k 0 n) e

@@ -1,27 +1,35 @@
-use Rattle.std.proofs.Common.{length}
+use Rattle.std.proofs.Common.{length, refl, arith}
+use Rattle.std.proofs.lemmas.Grind.{common_steps}
 use Rattle.prices.specs.Price.{price_by}
-use Rattle.search.proofs.Answering.{accepts, least_family, written, left_alone}
+use Rattle.search.proofs.Answering.{accepts}
+use Rattle.search.proofs.Found.{least_so}
+use Rattle.search.proofs.Judging.{granted}
 use Rattle.search.proofs.least.find_least.Goals as goal
 
-pub returns : goal.returns
-returns g c =
-    let K = g.P.Price.kind in
+pub returns-in_err-check_search-clause-accepts_exactly_lawful : goal.returns-in_err-check_search-clause-accepts_exactly_lawful
+returns-in_err-check_search-clause-accepts_exactly_lawful g c =
     let vs = c.args.line.now.vertices.now in
-    let ls = c.args.levels.now in
-    let price = price_by g.P.Price.link vs ls in
-    let says = g.M.Measure.says c.args.measure.now in
-    let largest = g.M.Measure.largest in
-    let graded = length c.args.grades.now in
-    let priced = length c.args.prices.now in
-    let stayed = length c.args.stays.now in
-    let r = c.find_or_fault.result in
-    let t = c.find_or_fault.ensures in
-    record {
-      answer = t.answer;
-      accepts_exactly_lawful = accepts K price largest says vs ls graded priced stayed r t.answer;
-      nothing_smaller = least_family K price largest says vs ls graded priced stayed g.met.P.Price.rules (g.met.M.Measure.rules c.args.measure.now) c.args.line.now.lawful
-          r t.answer c.find_or_fault.new.grades c.find_or_fault.new.prices c.find_or_fault.new.stays _ t.cells;
-      cells = written r _ _ t.cells;
-      rest_kept = t.rest_kept;
-      refusal_leaves_memory = left_alone r _ _ t.cells;
-    }
+    accepts g.P.Price.kind (price_by g.P.Price.link vs c.args.levels.now) g.M.Measure.LARGEST (g.M.Measure.says c.args.measure.now) vs c.args.levels.now
+    (length c.args.grades.now) (length c.args.prices.now) (length c.args.stays.now) c.from_residual.result (grind (arith, common_steps))
+
+pub find-requires : goal.find-requires
+find-requires g c =
+    granted g.M.Measure.LARGEST c.args.levels.now (length c.args.line.now.vertices.now) (length c.args.grades.now) (length c.args.prices.now)
+    (length c.args.stays.now) _ c.in_ok-check_search.ensures refl
+
+pub returns-clause-accepts_exactly_lawful : goal.returns-clause-accepts_exactly_lawful
+returns-clause-accepts_exactly_lawful g c = (
+  λ _.
+      granted g.M.Measure.LARGEST c.args.levels.now (length c.args.line.now.vertices.now) (length c.args.grades.now) (length c.args.prices.now)
+      (length c.args.stays.now) _ c.in_ok-check_search.ensures refl,
+  λ _. refl,
+)
+
+pub returns-clause-nothing_smaller : goal.returns-clause-nothing_smaller
+returns-clause-nothing_smaller g c =
+    let vs = c.args.line.now.vertices.now in
+    let t = c.find.ensures in
+    let lawful = granted g.M.Measure.LARGEST c.args.levels.now (length vs) (length c.args.grades.now) (length c.args.prices.now)
+    (length c.args.stays.now) _ c.in_ok-check_search.ensures refl in
+    least_so g.P.Price.kind (price_by g.P.Price.link vs c.args.levels.now) g.M.Measure.LARGEST (g.M.Measure.says c.args.measure.now) (g.met.M.Measure.rules c.args.measure.now)
+    vs c.args.line.now.lawful c.args.levels.now lawful.levels_lawful g.met.P.Price.rules c.find.new.grades c.find.new.prices c.find.new.stays c.find.result t.cells t.total

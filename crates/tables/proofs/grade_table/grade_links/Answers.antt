@@ -1,22 +1,23 @@
-use Rattle.std.proofs.Common.{ℕ, length, ◌∙◌, arith, rules}
+use Rattle.std.proofs.Common.{◌≡◌, ◌+◌, ◌-◌, ◌*◌, ◌≤◌, length, ◌∙◌, arith}
+use Rattle.std.proofs.lemmas.List.{places}
 use Rattle.tables.specs.Grade.{grade_cell}
-use Rattle.tables.proofs.Grades.{graded_more, graded_inside, graded_past}
+use Rattle.tables.proofs.Grades.{written_fits, graded_more, graded_past}
 use Rattle.tables.proofs.grade_table.grade_links.Goals as goal
-
-pub grade_row-requires : goal.grade_row-requires
-grade_row-requires g c = (
-  search rules,
-  graded_inside (length c.args.line.now.vertices.now) c.count-n.result c.loop-i.i (length c.loop-i.cells) c.count-n.ensures c.loop-i-test.true
-      (omega (arith, c.if-n-cells.false, c.loop-i.auto.cells)),
-)
 
 pub loop-i-preserved : goal.loop-i-preserved
 loop-i-preserved g c =
-    let vs = c.args.line.now.vertices.now in
-    let f = λ (i j : ℕ). grade_cell (g.M.Measure.says c.args.measure.now) vs c.args.levels.now i j in
+    let n = c.count-n.result in
+    let i = c.loop-i.i in
+    let before = c.loop-i.cells in
+    let row = c.fill_row.new.row in
     let inv = c.loop-i.invariant in
-    let r = c.grade_row.ensures in (
-      c.grade_row.auto.cells ∙ inv.0,
-      graded_more (length vs) c.count-n.result c.loop-i.i c.loop-i.cells c.grade_row.new.cells c.count-n.ensures f r.inside r.outside inv.1,
-      graded_past (length vs) c.count-n.result c.loop-i.i c.loop-i.cells c.grade_row.new.cells c.count-n.ensures c.loop-i-test.true r.outside c.args.cells.now inv.2,
+    let k = i * n + n - i * n in
+    let kn : k ≡ n = omega arith in
+    let room : n * n ≤ length before = omega (arith, inv.0, c.if-n-cells.false) in
+    let fits : i * n + k ≤ length before = written_fits n i c.loop-i-test.true before room k kn in
+    let long : length row ≡ k = c.fill_row.auto.row ∙ grind (arith, places) in
+    let f = grade_cell (g.M.Measure.says c.args.measure.now) c.args.line.now.vertices.now c.args.levels.now in (
+      grind (arith, places),
+      graded_more n i c.loop-i-test.true before row k kn long fits f (λ j h. c.fill_row.ensures j (grind (arith, places))) inv.1,
+      graded_past n i c.loop-i-test.true before row k kn long fits c.args.cells.now inv.2,
     )

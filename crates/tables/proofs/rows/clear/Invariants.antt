@@ -1,10 +1,5 @@
-use Rattle.std.proofs.Common.{◌≡◌, ℕ, ◌+◌, ◌<◌, length, get_or}
-use Rattle.tables.specs.Row.{KeptOutside}
+use Rattle.std.proofs.Common.{◌≡◌, ℕ, ◌<◌, get_or}
 use Rattle.tables.proofs.rows.clear.Given as goal
 
-abbrev pub invariant-loop-j : goal.invariant-loop-j
-invariant-loop-j g l =
-    let K = g.P.Price.kind in
-    (length l.cells ≡ length l.initial.cells) ×
-    ((x : ℕ) → x < l.j → get_or l.cells (l.start + x) K.neutral ≡ K.neutral) ×
-    KeptOutside K l.initial.cells l.cells l.start (l.start + l.j)
+abbrev pub invariant-loop-cell : goal.invariant-loop-cell
+invariant-loop-cell g l = (x : ℕ) → x < l.cell-index → get_or l.row x g.P.Price.kind.neutral ≡ g.P.Price.kind.neutral

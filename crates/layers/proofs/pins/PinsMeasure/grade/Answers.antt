@@ -1,9 +1,0 @@
-use Rattle.std.proofs.Common.{rules}
-use Rattle.layers.proofs.Grading.{grade_skips, grade_clear}
-use Rattle.layers.proofs.pins.PinsMeasure.grade.Goals as goal
-
-pub returns-then-not-none_between : goal.returns-then-not-none_between
-returns-then-not-none_between g c = let skips = c.if-not-none_between.ensures in search (rules, grade_skips)
-
-pub returns : goal.returns
-returns g c = let clear = c.if-not-none_between.ensures in search (rules, grade_clear)

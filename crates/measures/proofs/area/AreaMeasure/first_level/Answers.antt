@@ -1,0 +1,17 @@
+use Rattle.std.proofs.Common.{sym, refl, rules}
+use Rattle.std.proofs.lemmas.Bool.{and_left}
+use Rattle.measures.specs.Area.{area}
+use Rattle.measures.specs.Areas.{area_is}
+use Rattle.measures.proofs.Grades.{none_is}
+use Rattle.measures.proofs.area.AreaMeasure.first_level.Goals as goal
+
+pub returns-then-not-is_link : goal.returns-then-not-is_link
+returns-then-not-is_link c =
+    none_is (area c.args.line.now.vertices.now c.args.i c.args.j) c.args.levels.now (λ k h. and_left _ _ (sym c.if-not-is_link.ensures.value))
+
+pub returns : goal.returns
+returns c =
+    let vs = c.args.line.now.vertices.now in
+    let link = c.if-not-is_link.ensures.decides.0 refl in
+    c.first_passing.ensures (area vs c.args.i c.args.j)
+    (λ t b e. area_is vs c.args.i c.args.j t c.link_area-area.result b link.0 link.1 c.link_area-area.ensures (search rules))

@@ -1,0 +1,22 @@
+use Rattle.std.proofs.Common.{◌≡◌, ℕ, zero, suc, ◌+◌, ◌-◌, ◌^◌, ◌<◌, min, List, get_or, ◌∙◌, subst, arith, rules, tests}
+use Rattle.std.specs.Array.{IsFromFnResultFrom}
+use Rattle.std.specs.Fn.{Called}
+use denote.Param.Members.{Mut}
+use Rattle.packs.proofs.Fields.{stopped}
+use Rattle.packs.proofs.bytes.part.Goals as goal
+
+-- what a closure that stays as it is put at each index
+made : {F : Type 0} (call : Mut F (ℕ × Unit {0}) ℕ) (f : F) (of : ℕ → ℕ) → ((x y : ℕ) (q : F) → Called call f (x, tt) y q → (q ≡ f) × (y ≡ of x)) →
+    (ys : List ℕ) (i n : ℕ) → IsFromFnResultFrom call f ys i n → (k j : ℕ) → k < n → i + k ≡ j → get_or ys j 0 ≡ of j
+made call f of a ys i zero r k j h e = absurd (omega arith)
+made call f of a ys i (suc n) r zero j h e =
+    let z : i ≡ j = omega arith in
+    let P : ℕ → Type 0 = λ x. get_or ys x 0 ≡ of x in
+    subst P z (r.2.1 0 ∙ (a i r.1 r.0 r.3).1)
+made call f of a ys i (suc n) r (suc k) j h e = made call f of a ys (i + 1) n (subst (λ p. IsFromFnResultFrom call p ys (i + 1) n) (a i r.1 r.0 r.3).0 r.4) k j (omega arith) (omega arith)
+
+pub returns : goal.returns
+returns g c = λ i h.
+    let bs = c.args.bytes.now in
+    let at = c.args.at in
+    made _ _ (λ k. get_or bs (min (at + k) (2 ^ 64 - 1)) 0) (λ x y q k. search (rules, tests)) c.from_fn.result 0 g.row.N c.from_fn.ensures.items.each i i h (omega arith) ∙ stopped (at + i) bs (omega arith)

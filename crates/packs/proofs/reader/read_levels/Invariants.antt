@@ -1,6 +1,0 @@
-use Rattle.std.proofs.Common.{◌≡◌, take, drop}
-use Rattle.packs.specs.Job.{items, level_from}
-use Rattle.packs.proofs.reader.read_levels.Given as goal
-
-abbrev pub invariant-loop-i : goal.invariant-loop-i
-invariant-loop-i l = take l.i l.out ≡ items 8 level_from l.i (drop l.at l.bytes)

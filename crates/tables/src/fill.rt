@@ -1,0 +1,11 @@
+ghost use Rattle.std.specs.Prelude.{◌≤◌, length};
+
+use crate::terms::Terms;
+
+// The filling of a price table for n vertices, by the terms of a search.
+#[derive(Clone, Copy)]
+pub(crate) struct Filling<'a> {
+    pub(crate) terms: Terms<'a>,
+    pub(crate) n: usize,
+    ghost small: { (n ≤ 256) × (length terms.levels.now ≤ 8) },
+}
