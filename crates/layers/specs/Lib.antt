@@ -1,4 +1,4 @@
 pub mod Pins
-pub mod Leaves
+pub mod LayerAfter
 pub mod Reach
 pub mod Layered

@@ -39,7 +39,7 @@ impl<M: Drop> Pins<M> {
 }
 
 impl<M> Pins<M> {
-    ghost use Rattle.layers.specs.Leaves.{Leaves};
+    ghost use Rattle.layers.specs.LayerAfter.{LayerAfter};
 
     // The measure below.
     pub fn below(&self) -> &M
@@ -66,7 +66,7 @@ impl<M> Pins<M> {
     #[tactic(auto, using(crate::proofs::Listing::has_is))]
     pub fn pin_in(&mut self, v: usize, layer: Layer) -> Result<(), Fault>
         ensures answer { result ≡ pin_answer layer self.old.count self.old.pins.items v }
-        ensures leaves { Leaves result (self.old.pins.items ++ (v ∷ [])) self.old self.new }
+        ensures layer_after { LayerAfter result (self.old.pins.items ++ (v ∷ [])) self.old self.new }
         ensures pins_more { OnOk result (Adds v self.old.pins.items self.new.pins.items) }
     {
         if !self.is_inner(v) {
@@ -86,7 +86,7 @@ impl<M> Pins<M> {
     #[tactic(auto, using(crate::proofs::Listing::found, crate::proofs::Listing::missing))]
     pub fn release_in(&mut self, v: usize, layer: Layer) -> Result<(), Fault>
         ensures answer { result ≡ release_answer layer self.old.count self.old.pins.items v }
-        ensures leaves { Leaves result (without v self.old.pins.items) self.old self.new }
+        ensures layer_after { LayerAfter result (without v self.old.pins.items) self.old self.new }
         ensures pins_less { OnOk result (TakesOut v self.old.pins.items self.new.pins.items) }
     {
         if !self.is_inner(v) {
@@ -102,7 +102,7 @@ impl<M> Pins<M> {
     // Pins v: it comes after the other pins.
     pub fn pin(&mut self, v: usize) -> Result<(), Fault>
         ensures answer { result ≡ pin_answer Content self.old.count self.old.pins.items v }
-        ensures leaves { Leaves result (self.old.pins.items ++ (v ∷ [])) self.old self.new }
+        ensures layer_after { LayerAfter result (self.old.pins.items ++ (v ∷ [])) self.old self.new }
         ensures pins_more { OnOk result (Adds v self.old.pins.items self.new.pins.items) }
     {
         self.pin_in(v, Layer::Content)
@@ -111,7 +111,7 @@ impl<M> Pins<M> {
     // Releases v: the other pins keep their order.
     pub fn release(&mut self, v: usize) -> Result<(), Fault>
         ensures answer { result ≡ release_answer Content self.old.count self.old.pins.items v }
-        ensures leaves { Leaves result (without v self.old.pins.items) self.old self.new }
+        ensures layer_after { LayerAfter result (without v self.old.pins.items) self.old self.new }
         ensures pins_less { OnOk result (TakesOut v self.old.pins.items self.new.pins.items) }
     {
         self.release_in(v, Layer::Content)

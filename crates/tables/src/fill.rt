@@ -1,3 +1,4 @@
+// What is needed to fill a price table. The filling itself, row by row, is in rows.rt, whose definitions read this struct.
 ghost use Rattle.std.specs.Prelude.{◌≤◌, length};
 
 use crate::terms::Terms;

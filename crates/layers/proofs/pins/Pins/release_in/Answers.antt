@@ -9,8 +9,8 @@ invariant_of-self g c =
     let there = found layer.pins.items c.args.v c.in-Some.place (sym c.place.ensures ∙ c.in-Some.is) in
     record { lawful = rw (c.remove.ensures.items, there.1) (lawful_less layer.count c.args.v layer.pins.items layer.lawful) }
 
-pub returns-clause-leaves : goal.returns-clause-leaves
-returns-clause-leaves g c =
+pub returns-clause-layer_after : goal.returns-clause-layer_after
+returns-clause-layer_after g c =
     let there = found c.args.self.now.pins.items c.args.v c.in-Some.place (sym c.place.ensures ∙ c.in-Some.is) in
     search rules
 
