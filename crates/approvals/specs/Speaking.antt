@@ -1,4 +1,4 @@
--- Lists of approvals: a loop over them, and the rules of measures. Assumes nothing.
+-- Lists of approvals, looked through one by one, and the rules of measures. Assumes nothing.
 -- Proofs of laws: they stand here since the code of an `impl` names them. No contract reads them.
 use Rattle.std.specs.Prelude.{◌≡◌, ℕ, ◌+◌, ◌<◌, ◌≤◌, Bool, true, ◌||◌, List, [], ◌∷◌, length, drop, slice_index_or}
 use Rattle.std.proofs.Common.{sym, ap, ◌∙◌, arith}
@@ -8,11 +8,11 @@ use Rattle.approvals.specs.declared.approval.Approval.{Approval}
 use Rattle.measures.specs.Measure.{Rules}
 use Rattle.approvals.specs.Approvals.{approval, speaks, any_speaks, approved, approvals_largest}
 
--- a loop over the approvals has come to k, and none before it speaks
+-- none of the approvals before k speaks
 abbrev pub Silent : ℕ → ℕ → ℕ → List Approval → ℕ → Type 0
 Silent i j t xs k = any_speaks i j t xs ≡ any_speaks i j t (drop k xs)
 
--- the next one
+-- whether one speaks, told by number k and those after it
 pub next_speaks : (i j t : ℕ) (xs : List Approval) (k : ℕ) (b : Bool) → k < length xs → Silent i j t xs k → b ≡ speaks i j t (slice_index_or xs k (approval 0 0 0)) →
     any_speaks i j t xs ≡ (b || any_speaks i j t (drop (k + 1) xs))
 next_speaks i j t xs k b h before e =

@@ -14,5 +14,6 @@ pub struct Approval {
 #[derive(Drop)]
 pub struct Approvals {
     pub(crate) list: ArrayVec<Approval, 64>,
+    // kept by the list itself, and said here in its own words
     ghost sized: { length list.items ≤ 64 },
 }

@@ -6,12 +6,12 @@ use measures::measure::Measure;
 use std::process::Abort;
 use std::test::Fail;
 
-// As in the tests of measures: no helper of tests is shared between crates without a public function.
+// `at` and `says` as in the tests of measures: no helper of tests is shared between crates without a public function.
 fn at(x: i16, y: i16) -> Vertex {
     Vertex { x, y }
 }
 
-// The measure gives this answer for the link i → j of these vertices at the tolerance t.
+// The measure gives this answer for the link i → j of these vertices at the tolerance t. A call is a row; a struct would be made in each.
 fn says<M: Measure>(
     rt: &impl Abort,
     answer: bool,

@@ -18,24 +18,17 @@ static ONE_LEVEL: [u8; 28] = [
     4, 0, 0, 0, 4, 0, 0, 0, 1, 0, 12, 0, 0, 0, 5, 0, 5, 0, 0, 0, 0, 0, 0, 0, 0, 0, 0, 0,
 ];
 
+// A helper of tests: sharing it between crates would take a public function.
 fn level(tolerance: u32, weight: u32) -> Level {
     Level { tolerance, weight }
 }
 
-fn fault_of(levels: &[Level]) -> Result<Fault, Fail> {
+// The marker refuses the levels with this fault.
+fn check_fault(rt: &impl Abort, levels: &[Level], cause: Cause, place: usize) -> Result<(), Fail> {
     let mut line = Line::built_in();
     line.make(&ENDS)?;
-    match mark::<Segment, Count>(&Segment, &line, levels, &ONE_LEVEL) {
-        Ok(_) => Err(Fail::new("accepted")),
-        Err(fault) => Ok(fault),
-    }
-}
-
-fn check_fault(rt: &impl Abort, levels: &[Level], cause: Cause, place: usize) -> Result<(), Fail> {
-    let fault = fault_of(levels)?;
-    assert!(rt; fault.cause == cause);
-    assert!(rt; fault.layer == Layer::Marker);
-    assert!(rt; fault.place == place && fault.spot == 0);
+    let answer = mark::<Segment, Count>(&Segment, &line, levels, &ONE_LEVEL);
+    assert_eq!(rt; answer.err(), Some(Fault::new(cause, Layer::Marker, place)));
     Ok(())
 }
 
@@ -44,8 +37,7 @@ fn accepts_one_level(rt: HostRuntime) -> Result<(), Fail> {
     let mut line = Line::built_in();
     line.make(&ENDS)?;
     let total = mark::<Segment, Count>(&Segment, &line, &[level(0, 5)], &ONE_LEVEL)?;
-    let form = total.form();
-    assert!(rt; form.0 == 5 && form.1 == 0);
+    assert_eq!(rt; total.form(), (5, 0));
     Ok(())
 }
 

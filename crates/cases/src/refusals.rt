@@ -5,6 +5,7 @@ use std::alloc::Global;
 use std::process::Abort;
 use std::test::Fail;
 
+// The line of a fault with a spot. It is a literal, for `Fault::new` gives spot 0.
 fn check_line(
     rt: &impl Abort,
     heap: Global,

@@ -1,14 +1,10 @@
 -- A job that was read: what it says, and where it lies. Assumes nothing.
-use Rattle.std.proofs.Common.{◌≡◌, ℕ, ◌-◌, ◌≤◌, List, length, take, Ok, Err, Result, sym, ap, ◌∙◌, subst, arith}
+use Rattle.std.proofs.Common.{◌≡◌, ℕ, ◌≤◌, List, length, take, Ok, Err, Result, sym, ap, ◌∙◌, subst, arith}
 use Rattle.std.proofs.lemmas.List.{take_at}
-use Rattle.lines.specs.Line.{Lawful, judged_line}
-use Rattle.lines.specs.declared.fault.Fault.{Fault}
+use Rattle.lines.specs.Line.{Lawful}
 use Rattle.lines.specs.declared.level.Level.{Level}
 use Rattle.lines.specs.declared.vertex.Vertex.{Vertex}
-use Rattle.lines.proofs.Lines.{lawful_judged}
-use Rattle.measures.specs.Measure.{Answer}
 use Rattle.packs.specs.declared.job.Job.{Job}
-use Rattle.packs.specs.declared.kind.PriceKind.{PriceKind}
 use Rattle.packs.specs.Job.{Content, LawfulContent, encoded, job_in, AcceptsJobs, summary, summed_up, placed_vertices, placed_levels}
 use Rattle.packs.specs.Kind.{measure_largest}
 use Rattle.packs.proofs.Answered.{then_ok, same_answer}
@@ -74,28 +70,3 @@ module _ (bs : List ℕ) (job : Job) (vs : List Vertex) (ls : List Level) (h : J
       }
   drawn (Err (Refused f)) made = absurd made
   drawn (Err OutOfMemory) made = tt
-
--- a job that is refused
-pub job_refused : (bs : List ℕ) (e : Fault) → Err e ≡ summed_up (job_in bs) → job_in bs ≡ Err e
-job_refused bs e h = go (job_in bs) h
-  where
-    go : (r : Result Content Fault) → Err e ≡ summed_up r → r ≡ Err e
-    go (Ok j) h = cc
-    go (Err d) h = cc
-
--- drawing from the parts of a place that the code cuts out
-pub from_parts : (pr : PriceKind) (says : Answer) (vs u : List Vertex) (ls w : List Level) (n m : ℕ) (r : Result Drawing DrawError) → u ≡ take (n - 0) vs → w ≡ take (m - 0) ls →
-    Made (ShowsPriced pr says u w) r → Made (ShowsPriced pr says (take n vs) (take m ls)) r
-from_parts pr says vs u ls w n m r e f made =
-    let y : n - 0 ≡ n = omega arith in
-    let z : m - 0 ≡ m = omega arith in
-    subst (λ k. Made (ShowsPriced pr says k (take m ls)) r) (e ∙ ap (λ k. take k vs) y)
-    (subst (λ k. Made (ShowsPriced pr says u k) r) (f ∙ ap (λ k. take k ls) z) made)
-
--- a lawful line is made
-pub line_made : (vs : List Vertex) (n : ℕ) (f : Fault) → Lawful (take n vs) → Err f ≡ judged_line (take (n - 0) vs) → ⊥
-line_made vs n f lawful e =
-    let y : n - 0 ≡ n = omega arith in
-    let o : Err f ≡ Ok tt = e ∙ ap (λ k. judged_line (take k vs)) y ∙ lawful_judged (take n vs) lawful in
-    let z : ◌≡◌ {A = ℕ} 0 1 = cc in
-    omega arith

@@ -2,6 +2,9 @@
 use Rattle.std.specs.Prelude.{ℕ, zero, suc, ◌-◌, List, [], ◌∷◌, ◌++◌, length, codes, decimal, slice_index}
 use Rattle.std.specs.List.{flat_map}
 use Rattle.families.specs.Stay.{read_off}
+use Rattle.lines.specs.Fault.{refused_text}
+use Rattle.drawings.specs.declared.drawing.DrawError.{DrawError}
+use Rattle.drawings.specs.declared.drawing.DrawError.TheVariants.{Refused, OutOfMemory}
 
 -- A vertex, with a space before it.
 abbrev pub vertex_text : ℕ → List ℕ
@@ -28,3 +31,8 @@ levels_text (suc m) chain = levels_text m chain ++ ended (level_text (suc m) (ch
 -- The lines of a drawing: one for each of m levels, with the chains that are read off the stays, then that of the total.
 abbrev pub drawing_text : ℕ → List ℕ → ℕ × ℕ → List ℕ
 drawing_text m stays form = levels_text m (read_off (λ v. slice_index stays v) (length stays)) ++ ended (total_text form)
+
+-- Why there is no drawing: the line of the refusal, or that memory ran out.
+abbrev pub error_text : DrawError → List ℕ
+error_text (Refused f) = refused_text f
+error_text OutOfMemory = codes "out of memory"

@@ -1,9 +1,12 @@
 // Drawings, and why none is made.
-ghost use Rattle.std.specs.Prelude.{◌≡◌};
+ghost use Rattle.std.specs.Prelude.{◌≡◌, Some};
+ghost use Rattle.drawings.specs.Text.{error_text};
 ghost use Rattle.drawings.specs.declared.drawing.DrawError.TheVariants.{Refused, OutOfMemory};
 
 use lines::fault::Fault;
 use std::alloc::AllocError;
+use std::error::Error;
+use std::fmt;
 
 // The first least family of a job: its number of levels, the stay of each vertex, and the form of its total.
 #[derive(Drop)]
@@ -14,7 +17,7 @@ pub struct Drawing {
 }
 
 // Why there is no drawing: the pack is refused, or memory runs out.
-#[derive(Clone, Copy)]
+#[derive(Clone, Copy, Debug)]
 pub enum DrawError {
     Refused(Fault),
     OutOfMemory,
@@ -35,3 +38,17 @@ impl From<AllocError> for DrawError {
         DrawError::OutOfMemory
     }
 }
+
+// The line of the refusal, or that memory ran out.
+impl fmt::Display for DrawError {
+    ghost output = { λ error. Some (error_text error) };
+
+    fn fmt<W: fmt::Write>(&self, f: &mut fmt::Formatter<W>) -> fmt::Result {
+        match self {
+            Self::Refused(fault) => write!(f, "{fault}"),
+            Self::OutOfMemory => f.write_str("out of memory"),
+        }
+    }
+}
+
+impl Error for DrawError {}

@@ -40,67 +40,61 @@ fn filled<T: Copy>(heap: Global, n: usize, value: T) -> Result<Vec<T>, AllocErro
     Ok(memory)
 }
 
-// Draws a line under a measure and a kind of price.
-fn draw_line<M: Measure, P: Price>(
+// A line and its levels, which are drawn in memory of a heap.
+#[derive(Clone, Copy)]
+struct Sketch<'a> {
     heap: Global,
-    measure: &M,
-    line: &Line,
-    levels: &[Level],
-) -> Result<Drawing, DrawError>
-    requires { Drawable M.Measure.LARGEST levels.now }
-    ensures { Made (Shows P.Price.kind P.Price.link (M.Measure.says measure.now) line.now.vertices.now levels.now) result }
-{
-    let mut grades = filled(heap, GRADES, 0u8)?;
-    let mut prices = filled(heap, PRICES, P::neutral())?;
-    let mut stays = filled(heap, STAYS, 0u8)?;
-    let total = find_least(
-        measure,
-        line,
-        levels,
-        grades.as_mut_slice(),
-        prices.as_mut_slice(),
-        stays.as_mut_slice(),
-    )?;
-    stays.truncate(line.count());
-    Ok(Drawing {
-        levels: levels.len(),
-        stays,
-        form: P::form(total),
-    })
+    line: Line<'a>,
+    levels: &'a [Level],
 }
 
-// Draws a line under a measure and the price with its number. A price is a type, so its number is matched; no `dyn` can stand for it.
-fn draw_priced<M: Measure>(
-    heap: Global,
-    measure: &M,
-    price: PriceKind,
-    line: &Line,
-    levels: &[Level],
-) -> Result<Drawing, DrawError>
-    requires { Drawable M.Measure.LARGEST levels.now }
-    ensures { Made (ShowsPriced price (M.Measure.says measure.now) line.now.vertices.now levels.now) result }
-{
-    match price {
-        PriceKind::Count => draw_line::<M, Count>(heap, measure, line, levels),
-        PriceKind::CountThenArea => draw_line::<M, CountThenArea>(heap, measure, line, levels),
+// A measure is known to each call alone, and so is whether the levels are lawful under it.
+impl Sketch<'_> {
+    // Draws under a measure and a kind of price.
+    fn draw<M: Measure, P: Price>(&self, measure: &M) -> Result<Drawing, DrawError>
+        requires { Drawable M.Measure.LARGEST self.now.levels.now }
+        ensures { Made (Shows P.Price.kind P.Price.link (M.Measure.says measure.now) self.now.line.vertices.now self.now.levels.now) result }
+    {
+        let mut grades = filled(self.heap, GRADES, 0u8)?;
+        let mut prices = filled(self.heap, PRICES, P::neutral())?;
+        let mut stays = filled(self.heap, STAYS, 0u8)?;
+        let total = find_least(
+            measure,
+            &self.line,
+            self.levels,
+            grades.as_mut_slice(),
+            prices.as_mut_slice(),
+            stays.as_mut_slice(),
+        )?;
+        stays.truncate(self.line.count());
+        Ok(Drawing {
+            levels: self.levels.len(),
+            stays,
+            form: P::form(total),
+        })
     }
-}
 
-// Draws a line under the measure and the price with their numbers. A measure has a constant, so no `dyn` can stand for it either.
-fn draw_numbered(
-    heap: Global,
-    measure: MeasureKind,
-    price: PriceKind,
-    line: &Line,
-    levels: &[Level],
-) -> Result<Drawing, DrawError>
-    requires { Drawable (measure_largest measure) levels.now }
-    ensures { Made (ShowsPriced price (measure_says measure) line.now.vertices.now levels.now) result }
-{
-    match measure {
-        MeasureKind::Segment => draw_priced(heap, &Segment, price, line, levels),
-        MeasureKind::Strip => draw_priced(heap, &Strip, price, line, levels),
-        MeasureKind::Area => draw_priced(heap, &Area, price, line, levels),
+    // Draws under a measure and the price with its number. A price is a type, so its number is matched; no `dyn` can stand for it.
+    fn draw_priced<M: Measure>(&self, measure: &M, price: PriceKind) -> Result<Drawing, DrawError>
+        requires { Drawable M.Measure.LARGEST self.now.levels.now }
+        ensures { Made (ShowsPriced price (M.Measure.says measure.now) self.now.line.vertices.now self.now.levels.now) result }
+    {
+        match price {
+            PriceKind::Count => self.draw::<M, Count>(measure),
+            PriceKind::CountThenArea => self.draw::<M, CountThenArea>(measure),
+        }
+    }
+
+    // Draws under the measure and the price with their numbers. A measure has a constant, so no `dyn` can stand for it either.
+    fn draw_numbered(&self, measure: MeasureKind, price: PriceKind) -> Result<Drawing, DrawError>
+        requires { Drawable (measure_largest measure) self.now.levels.now }
+        ensures { Made (ShowsPriced price (measure_says measure) self.now.line.vertices.now self.now.levels.now) result }
+    {
+        match measure {
+            MeasureKind::Segment => self.draw_priced(&Segment, price),
+            MeasureKind::Strip => self.draw_priced(&Strip, price),
+            MeasureKind::Area => self.draw_priced(&Area, price),
+        }
     }
 }
 
@@ -115,7 +109,12 @@ fn draw_job(heap: Global, place: &Place, job: Job) -> Result<Drawing, DrawError>
     let m = job.levels;
     let mut line = Line::built_in();
     line.make(&place.vertices[0..n])?;
-    draw_numbered(heap, job.measure, job.price, &line, &place.levels[0..m])
+    let sketch = Sketch {
+        heap,
+        line,
+        levels: &place.levels[0..m],
+    };
+    sketch.draw_numbered(job.measure, job.price)
 }
 
 // Draws the job of a pack, or answers the reader's fault, or that memory ran out.

@@ -1,48 +1,59 @@
 // Drawings as text.
-ghost use Rattle.std.specs.Prelude.{◌≡◌, ◌++◌, length, IfOk, string_bytes, OnOk, slice_index};
-ghost use Rattle.std.specs.List.{flat_map};
+ghost use Rattle.std.specs.Prelude.{◌≡◌, length, Some, IfOk, string_bytes, slice_index};
 ghost use Rattle.families.specs.Stay.{read_off};
-ghost use Rattle.drawings.specs.Text.{vertex_text, level_text, total_text, ended, levels_text, drawing_text};
+ghost use Rattle.drawings.specs.Text.{level_text, total_text, levels_text, drawing_text};
 
 use crate::drawing::Drawing;
 use search::chain::read_chain;
 use std::alloc::{AllocError, Global};
+use std::fmt;
 
-// Adds the vertices of a chain, each with a space before it.
-fn add_vertices(heap: Global, text: &mut String, chain: &[usize]) -> Result<(), AllocError>
-    ensures { OnOk result (string_bytes text.new ≡ string_bytes text.old ++ flat_map vertex_text chain.now) }
-{
-    for v in chain {
-        let v = *v;
-        text.push_str(format!(in heap; " {v}")?.as_str())?;
+// The form of a total, which prints its line.
+#[derive(Clone, Copy)]
+struct Total((u32, u64));
+
+impl fmt::Display for Total {
+    ghost output = { λ total. Some (total_text total.0) };
+
+    fn fmt<W: fmt::Write>(&self, f: &mut fmt::Formatter<W>) -> fmt::Result {
+        let (first, second) = self.0;
+        write!(f, "total {first} {second}")
     }
-    Ok(())
 }
 
-// The line of a total.
+// A level with its chain, which prints its line.
+#[derive(Clone, Copy)]
+struct LevelChain<'a> {
+    level: usize,
+    chain: &'a [usize],
+}
+
+impl fmt::Display for LevelChain<'_> {
+    ghost output = { λ line. Some (level_text line.level line.chain.now) };
+
+    fn fmt<W: fmt::Write>(&self, f: &mut fmt::Formatter<W>) -> fmt::Result {
+        let level = self.level;
+        let links = self.chain.len().saturating_sub(1);
+        write!(f, "level {level} links {links}:")?;
+        for v in self.chain {
+            write!(f, " {v}")?;
+        }
+        Ok(())
+    }
+}
+
+// The line of a total. A public call of its own: it answers the text in memory, which `Display` writes.
 pub fn total_line(heap: Global, form: (u32, u64)) -> Result<String, AllocError>
     ensures { IfOk result (λ s. string_bytes s ≡ total_text form) }
 {
-    let (first, second) = form;
-    format!(in heap; "total {first} {second}")
+    Total(form).to_string(heap)
 }
 
-// The line of level k with its chain.
+// The line of level k with its chain, likewise.
 pub fn level_line(heap: Global, k: usize, chain: &[usize]) -> Result<String, AllocError>
     ensures { IfOk result (λ s. string_bytes s ≡ level_text k chain.now) }
 {
-    let links = chain.len().saturating_sub(1);
-    let mut line = format!(in heap; "level {k} links {links}:")?;
-    add_vertices(heap, &mut line, chain)?;
-    Ok(line)
-}
-
-// Adds a line and the line feed that ends it.
-fn add_line(text: &mut String, line: &str) -> Result<(), AllocError>
-    ensures { OnOk result (string_bytes text.new ≡ string_bytes text.old ++ ended line.now) }
-{
-    text.push_str(line)?;
-    text.push_str("\n")
+    LevelChain { level: k, chain }.to_string(heap)
 }
 
 // The lines of m levels, with the chains that are read off the stays.
@@ -50,11 +61,14 @@ fn level_lines(heap: Global, m: usize, stays: &[u8]) -> Result<String, AllocErro
     ensures { IfOk result (λ s. string_bytes s ≡ levels_text m (read_off (λ v. slice_index stays.now v) (length stays.now))) }
 {
     let mut text = String::new(heap);
-    // k is a level, and indexes no slice.
-    for k in 1..=m {
-        let chain = read_chain(heap, stays, k)?;
-        let line = level_line(heap, k, chain.as_slice())?;
-        add_line(&mut text, line.as_str())?;
+    // A level is the subject here, and indexes no slice.
+    for level in 1..=m {
+        let chain = read_chain(heap, stays, level)?;
+        let line = LevelChain {
+            level,
+            chain: chain.as_slice(),
+        };
+        writeln!(text, "{line}")?;
     }
     Ok(text)
 }
@@ -64,7 +78,7 @@ pub fn drawing_text(heap: Global, drawing: &Drawing) -> Result<String, AllocErro
     ensures { IfOk result (λ s. string_bytes s ≡ drawing_text drawing.now.levels drawing.now.stays.items drawing.now.form) }
 {
     let mut text = level_lines(heap, drawing.levels, drawing.stays.as_slice())?;
-    let line = total_line(heap, drawing.form)?;
-    add_line(&mut text, line.as_str())?;
+    let total = Total(drawing.form);
+    writeln!(text, "{total}")?;
     Ok(text)
 }

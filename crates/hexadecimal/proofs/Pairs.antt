@@ -8,11 +8,6 @@ use Rattle.hexadecimal.specs.Hex.{byte_value, in_front, unhexed}
 abbrev pub behind : List ℕ → Option (List ℕ) → Option (List ℕ)
 behind before rest = option_map (λ bs. before ++ bs) rest
 
--- at the start nothing was read
-pub from_start : (before : List ℕ) (rest : Option (List ℕ)) → before ≡ [] → behind before rest ≡ rest
-from_start before None e = refl
-from_start before (Some bs) e = ap (λ xs. Some (xs ++ bs)) e
-
 -- an odd number of codes writes nothing
 nothing : (b : Option ℕ) → None ≡ in_front b None
 nothing None = refl

@@ -1,6 +1,5 @@
 -- First levels under a layer. Assumes nothing.
-use Rattle.std.proofs.Common.{◌≡◌, ℕ, ◌-◌, ◌<◌, ◌≤◌, true, false, ◌&&◌, ◌⊎◌, List, length, None, Option, sym, ap, ◌∙◌, arith}
-use Rattle.std.proofs.Math.Bool.{and-true}
+use Rattle.std.proofs.Common.{◌≡◌, ℕ, ◌-◌, ◌<◌, ◌≤◌, false, ◌⊎◌, List, length, None, Option, sym, ap, ◌∙◌, arith}
 use Rattle.std.proofs.lemmas.Bool.{and_right}
 use Rattle.std.proofs.lemmas.Bool.Decides.{nat_tests}
 use Rattle.families.specs.Pin.{clear}
@@ -24,10 +23,6 @@ module _ (pins : List ℕ) (below : Answer) (vs : List Vertex) (ls : List Level)
   -- the link skips a pin
   pub first_skips : false ≡ clear pins i j → None ≡ first_allowing (over_pins pins below) vs ls i j
   first_skips e = no_first (over_pins pins below) vs ls i j (λ t. and_right (below vs i j t) (clear pins i j) (sym e))
-
-  -- it skips none
-  pub first_clear : (x : Option ℕ) → x ≡ first_allowing below vs ls i j → true ≡ clear pins i j → x ≡ first_allowing (over_pins pins below) vs ls i j
-  first_clear x is e = is ∙ same_first below (over_pins pins below) vs ls i j (λ t. sym (ap (λ b. below vs i j t && b) (sym e) ∙ and-true (below vs i j t)))
 
 module _ (r largest : ℕ) (below : Answer) (vs : List Vertex) (ls : List Level) (i j : ℕ) where
   -- the link goes too far

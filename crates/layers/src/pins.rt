@@ -16,6 +16,7 @@ use measures::measure::Measure;
 #[derive(Drop)]
 pub struct Pins<M> {
     below: M,
+    // the number of vertices of a line, not of the pins
     count: usize,
     pins: ArrayVec<usize, 32>,
     pub ghost lawful: { LawfulPins count pins.items } by { LawfulPins-prop count pins.items },
@@ -99,7 +100,7 @@ impl<M> Pins<M> {
         Ok(())
     }
 
-    // Pins v: it comes after the other pins.
+    // Pins v: it comes after the other pins. A call of its own beside `pin_in`: who pins a layer names no layer.
     pub fn pin(&mut self, v: usize) -> Result<(), Fault>
         ensures answer { result ≡ pin_answer Content self.old.count self.old.pins.items v }
         ensures layer_after { LayerAfter result (self.old.pins.items ++ (v ∷ [])) self.old self.new }
@@ -108,7 +109,7 @@ impl<M> Pins<M> {
         self.pin_in(v, Layer::Content)
     }
 
-    // Releases v: the other pins keep their order.
+    // Releases v: the other pins keep their order. A call of its own beside `release_in`, as `pin` is.
     pub fn release(&mut self, v: usize) -> Result<(), Fault>
         ensures answer { result ≡ release_answer Content self.old.count self.old.pins.items v }
         ensures layer_after { LayerAfter result (without v self.old.pins.items) self.old self.new }

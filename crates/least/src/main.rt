@@ -11,15 +11,11 @@ fn main(rt: HostRuntime) -> anyhow::Result<()> {
     let heap = rt.alloc();
     let mut bytes = Vec::new(heap);
     rt.stdin().read_to_end(&mut bytes)?;
-    match draw_pack(heap, bytes.as_slice()) {
-        Ok(drawing) => {
-            rt.print(drawing_text(heap, &drawing)?)?;
-            Ok(())
-        }
-        Err(DrawError::Refused(fault)) => {
-            println!(rt; "{fault}")?;
-            Err(anyhow!("refused"))
-        }
-        Err(DrawError::OutOfMemory) => Err(anyhow!("out of memory")),
+    let drawing = draw_pack(heap, bytes.as_slice());
+    if let Err(DrawError::Refused(fault)) = drawing {
+        println!(rt; "{fault}")?;
+        return Err(anyhow!("refused"));
     }
+    rt.print(drawing_text(heap, &drawing?)?)?;
+    Ok(())
 }

@@ -38,23 +38,8 @@ back64 z h = to_z-of_z w64 z (fits64 z h)
 pub small16 : (z : ℤ) → SFits w16 z → nat_abs z ≤ 32768
 small16 z f = omega (arith, f.sfits, nat_abs_mag z)
 
-pub small32 : (z : ℤ) → SFits w32 z → nat_abs z ≤ 2147483648
-small32 z f = omega (arith, f.sfits, nat_abs_mag z)
-
 pub product_small : (a b : ℤ) (m n : ℕ) → nat_abs a ≤ m → nat_abs b ≤ n → nat_abs (a *ℤ b) ≤ m * n
 product_small a b m n h k = rw nat_abs_mul (mul-le-mul h k)
-
--- the product of two numbers of 32 bits, as the code takes it at 64
-pub product_back : (a b : ℤ) → SFits w32 a → SFits w32 b →
-    to_z w64 (of_z w64 (to_z w64 (of_z w64 (to_z w32 (of_z w32 a))) *ℤ to_z w64 (of_z w64 (to_z w32 (of_z w32 b))))) ≡ a *ℤ b
-product_back a b f g =
-    let ha = small32 a f in
-    let hb = small32 b g in
-    let hp = product_small a b 2147483648 2147483648 ha hb in
-    let ea = back64 a (omega arith) in
-    let eb = back64 b (omega arith) in
-    let ep = back64 (a *ℤ b) (omega arith) in
-    rw (to_z-of_z w32 a f, to_z-of_z w32 b g, ea, eb, ep) refl
 
 -- a coordinate, widened
 pub wide32 : (x : ℤ) → SFits w16 x → to_z w32 (of_z w32 (to_z w16 (of_z w16 x))) ≡ x

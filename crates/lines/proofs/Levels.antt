@@ -76,6 +76,3 @@ module _ (largest : ℕ) (layer : Layer) (least i : ℕ) (ls : List Level) (h : 
 
   pub bad_weight : (leb least t && leb t largest) ≡ true → (leb 1 w && leb w 1000) ≡ false → judged_from largest layer (i + 1) least (drop i ls) ≡ Err (fault Weight layer (i + 1))
   bad_weight a b = opened ∙ cond-true _ _ _ a ∙ cond-false _ _ _ b
-
-  pub good_level : (leb least t && leb t largest) ≡ true → (leb 1 w && leb w 1000) ≡ true → judged_from largest layer (i + 1) least (drop i ls) ≡ judged_from largest layer (i + 1 + 1) (t + 1) (drop (i + 1) ls)
-  good_level a b = opened ∙ cond-true _ _ _ a ∙ cond-true _ _ _ b

@@ -1,16 +1,12 @@
 -- Judging vertices accepts exactly lawful lines, and names the lowest bad one. Assumes nothing.
-use Rattle.std.proofs.Common.{◌≡◌, ℕ, ◌+◌, ◌<◌, true, false, cond, ◌&&◌, leb, List, [], ◌∷◌, length, get_or, drop, ℤ, pos, negsuc, ◌≤ℤ◌, is_ok, Ok, Err, Decides, refl, ◌∙◌, arith}
+use Rattle.std.proofs.Common.{◌≡◌, ℕ, ◌+◌, true, ◌&&◌, leb, List, [], ◌∷◌, length, ℤ, pos, negsuc, ◌≤ℤ◌, is_ok, Ok, Decides, refl, ◌∙◌, arith}
 use lib.Signed.{le_z}
 use Rattle.std.proofs.lemmas.Int.{ints}
 use Rattle.std.specs.List.{AllByRecursion}
-use Rattle.std.proofs.lemmas.List.{at_drop_more}
 use Rattle.std.proofs.ByRecursion.{All-get_or, All-from_get_or}
-use Rattle.std.proofs.lemmas.Bool.{cond-true, cond-false, and_parts, leb-true}
+use Rattle.std.proofs.lemmas.Bool.{cond-true, and_parts, leb-true}
 use Rattle.std.proofs.lemmas.Bool.Decides.{nat_tests, Decides-and}
-use Rattle.lines.specs.declared.fault.Cause.TheVariants.{Coordinate}
-use Rattle.lines.specs.declared.fault.Layer.TheVariants.{Content}
 use Rattle.lines.specs.declared.vertex.Vertex.{Vertex}
-use Rattle.lines.specs.Fault.{fault}
 use Rattle.lines.specs.Vertex.{origin, InRange, in_range}
 use Rattle.lines.specs.Line.{Counted, Lawful, ranged_from, judged_line}
 use Rattle.lines.proofs.Levels.{passed}
@@ -19,16 +15,6 @@ pub counted : (vs : List Vertex) → Counted vs → judged_line vs ≡ ranged_fr
 counted vs c =
     let b : (leb 2 (length vs) && leb (length vs) 256) ≡ true = grind (arith, nat_tests) in
     cond-true _ _ _ b
-
-module _ (i : ℕ) (vs : List Vertex) (h : i < length vs) where
-  opened : ranged_from i (drop i vs) ≡ cond (in_range (get_or vs i origin)) (ranged_from (i + 1) (drop (i + 1) vs)) (Err (fault Coordinate Content i))
-  opened = at_drop_more (ranged_from i) vs i origin h
-
-  pub bad_vertex : in_range (get_or vs i origin) ≡ false → ranged_from i (drop i vs) ≡ Err (fault Coordinate Content i)
-  bad_vertex b = opened ∙ cond-false _ _ _ b
-
-  pub good_vertex : in_range (get_or vs i origin) ≡ true → ranged_from i (drop i vs) ≡ ranged_from (i + 1) (drop (i + 1) vs)
-  good_vertex b = opened ∙ cond-true _ _ _ b
 
 -- a test of order, and the order
 decides_le_z : (a b : ℤ) → Decides (le_z a b) (a ≤ℤ b)

@@ -37,7 +37,8 @@ pub enum Layer {
     Sheet = 4,
 }
 
-// A refusal: why, which layer found it, and where. What place and spot count depends on the cause.
+// A refusal: why, which layer found it, and where. What place and spot count depends on the cause; where a place tells kinds apart (which
+// limit, which memory), its numbers are the printed format.
 #[derive(Clone, Copy, PartialEq, Eq, Debug)]
 pub struct Fault {
     pub cause: Cause,
@@ -47,7 +48,7 @@ pub struct Fault {
 }
 
 impl Fault {
-    // The refusal of a cause at a place, with spot 0.
+    // The refusal of a cause at a place, with spot 0. A fault with a spot is a literal where it is made.
     pub fn new(cause: Cause, layer: Layer, place: usize) -> Fault
         ensures { result ≡ fault cause layer place }
     {

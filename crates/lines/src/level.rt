@@ -27,6 +27,7 @@ pub fn check_levels(levels: &[Level], largest: u32, layer: Layer) -> Result<(), 
     ensures lawful { Decides (is_ok result) (LawfulLevels largest levels.now) }
 {
     let mut least: u64 = 0;
+    // A loop, no chain: each level is held against the one before, and the first fault names its place.
     for (i, l) in levels.iter().enumerate() {
         if (l.tolerance as u64) < least || l.tolerance > largest {
             return Err(Fault::new(Cause::Tolerance, layer, i + 1));

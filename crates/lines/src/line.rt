@@ -33,6 +33,7 @@ impl<'a> Line<'a> {
         if count < 2 || count > 256 {
             return Err(Fault::new(Cause::Limits, Layer::Content, 0));
         }
+        // A loop over the slice with its index: the project rules this form here.
         for (i, v) in vertices.iter().enumerate() {
             if !v.in_range() {
                 return Err(Fault::new(Cause::Coordinate, Layer::Content, i));

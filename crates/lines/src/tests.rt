@@ -37,6 +37,7 @@ static CAUSES: [Cause; 20] = [
 
 static LAYERS: [Layer; 4] = [Layer::Pack, Layer::Content, Layer::Marker, Layer::Sheet];
 
+// A helper of tests: sharing it between crates would take a public function.
 fn at(x: i16, y: i16) -> Vertex {
     Vertex { x, y }
 }

@@ -1,5 +1,5 @@
 -- A family's head that was read: the job it says, and where it lies. Assumes nothing.
-use Rattle.std.proofs.Common.{◌≡◌, ℕ, ◌-◌, ◌≤◌, List, length, take, drop, Ok, Err, Result, sym, refl, ap, ◌∙◌, ap₂, arith, length-append}
+use Rattle.std.proofs.Common.{◌≡◌, ℕ, ◌≤◌, List, length, take, drop, Ok, Err, Result, sym, refl, ap, ◌∙◌, arith, length-append}
 use Rattle.std.proofs.lemmas.List.{take_at}
 use Rattle.lines.specs.Fault.{then}
 use Rattle.lines.specs.Line.{judged_line}
@@ -10,8 +10,7 @@ use Rattle.lines.proofs.Lines.{lawful_judged}
 use Rattle.packs.specs.declared.job.Job.{Job}
 use Rattle.packs.specs.Job.{Content, LawfulContent, encoded, head_in, AcceptsHeads, summary, summed_up_to, content_of, placed_vertices, placed_levels}
 use Rattle.packs.proofs.Answered.{then_ok, same_answer}
-use Rattle.packs.specs.Kind.{measure_largest}
-use Rattle.marker.specs.Pack.{measure_says, form_marked, job_marked, place_marked, pack_marked}
+use Rattle.marker.specs.Pack.{job_marked, place_marked, pack_marked}
 
 pub record HeadRead (bs : List ℕ) (job : Job) (end : ℕ) (vs : List Vertex) (ls : List Level) : Type 0 where
   pub content : Content
@@ -65,15 +64,3 @@ refused (Err d) f g e ok h = cc
 
 pub head_refused : (bs : List ℕ) (e : Fault) → Err e ≡ summed_up_to (head_in bs) → pack_marked bs ≡ Err e
 head_refused bs e h = refused (head_in bs) (λ x. Ok (summary x.0, x.1)) (λ x. job_marked x.0 (drop x.1 bs)) e (λ x. ((summary x.0, x.1), refl)) h
-
--- marking from the parts of a place that the code cuts out
-pub from_parts : (vs u : List Vertex) (ls w : List Level) (job : Job) (bs : List ℕ) (r : Result (ℕ × ℕ) Fault) → u ≡ take (job.vertices - 0) vs → w ≡ take (job.levels - 0) ls →
-    Ok tt ≡ judged_line u → r ≡ form_marked job.price (measure_largest job.measure) (measure_says job.measure) u w bs → r ≡ place_marked vs ls job bs
-from_parts vs u ls w job bs r e f o a =
-    let y : job.vertices - 0 ≡ job.vertices = omega arith in
-    let z : job.levels - 0 ≡ job.levels = omega arith in
-    let eu : u ≡ take job.vertices vs = e ∙ ap (λ k. take k vs) y in
-    let ew : w ≡ take job.levels ls = f ∙ ap (λ k. take k ls) z in
-    let j : judged_line (take job.vertices vs) ≡ Ok tt = sym (ap judged_line eu) ∙ sym o in
-    a ∙ ap₂ (λ x l. form_marked job.price (measure_largest job.measure) (measure_says job.measure) x l bs) eu ew
-    ∙ sym (ap (λ q. then q (λ _. form_marked job.price (measure_largest job.measure) (measure_says job.measure) (take job.vertices vs) (take job.levels ls) bs)) j)

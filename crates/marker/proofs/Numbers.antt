@@ -41,7 +41,7 @@ zip_links [] = refl
 zip_links (p ∷ ps) = zip_from (little p) (map little ps)
 
 -- the number at a position
-pub number_at : (ps : List (List ℕ)) (i v : ℕ) → i < length ps → v ≡ little (get_or ps i []) → get_or (map little ps) i 0 ≡ v
+number_at : (ps : List (List ℕ)) (i v : ℕ) → i < length ps → v ≡ little (get_or ps i []) → get_or (map little ps) i 0 ≡ v
 number_at ps i v h e = get_or-map little ps i [] 0 h ∙ sym e
 
 -- looking for disorder from position i on

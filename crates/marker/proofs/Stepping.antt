@@ -14,7 +14,8 @@ use Rattle.prices.specs.Price.{LinkPrice, price_by}
 use Rattle.marker.specs.declared.chain.Chain.{Chain}
 use Rattle.marker.specs.Chain.{numbers_of}
 use Rattle.marker.specs.Records.{chains_in, chain_of}
-use Rattle.marker.specs.Judge.{judged_chain, judged_from}
+use Rattle.lines.specs.declared.fault.Cause.TheVariants.{Order, Nesting, Link}
+use Rattle.marker.specs.Judge.{disorder, missing, forbidden, none_or, judged_chain, judged_from}
 
 module _ (allowed : ℕ → ℕ → ℕ → Bool) (n : ℕ) where
   -- the judgement of the levels after the first k, where the chain before them was `finer`
@@ -38,11 +39,24 @@ module _ (allowed : ℕ → ℕ → ℕ → Bool) (n : ℕ) where
   resumed_done k finer (c ∷ cs) (l ∷ ls) (inl e) = cc
   resumed_done k finer (c ∷ cs) (l ∷ ls) (inr e) = absurd (omega arith)
 
-  -- the chain of the next level is c, and it is refused
-  pub resumed_refused : (k : ℕ) (finer : Option Chain) (c : Chain) (l : Level) (all cs : List (List ℕ)) (levels ls : List Level) (f : Fault) → all ≡ numbers_of c ∷ cs → levels ≡ l ∷ ls →
-      Err f ≡ judged_chain (allowed l.tolerance) n (k + 1) (numbers_of (unwrap_or finer c)) (numbers_of c) → Err f ≡ resumed k finer all levels
-  resumed_refused k finer c l all cs levels ls f chains rest e =
-      sym (ap₂ (resumed k finer) chains rest ∙ resumed_more k finer c l cs ls ∙ ap (λ s. then s (λ _. resumed (k + 1) (Some c) cs ls)) (sym e))
+  -- the chain of the next level is c: it is refused, or it passes
+  module _ (k : ℕ) (finer : Option Chain) (c : Chain) (l : Level) (all cs : List (List ℕ)) (levels ls : List Level) (chains : all ≡ numbers_of c ∷ cs) (rest : levels ≡ l ∷ ls) where
+    abbrev below : List ℕ
+    below = numbers_of (unwrap_or finer c)
+
+    next : resumed k finer all levels ≡ then (judged_chain (allowed l.tolerance) n (k + 1) below (numbers_of c)) (λ _. resumed (k + 1) (Some c) cs ls)
+    next = ap₂ (resumed k finer) chains rest ∙ resumed_more k finer c l cs ls
+
+    module _ (order : Ok tt ≡ none_or (disorder n (numbers_of c)) Order (k + 1)) where
+      pub nesting_refused : (f : Fault) → Err f ≡ none_or (missing below (numbers_of c)) Nesting (k + 1) → Err f ≡ resumed k finer all levels
+      nesting_refused f e = sym (next ∙ rw (sym order, sym e) refl)
+
+      module _ (nesting : Ok tt ≡ none_or (missing below (numbers_of c)) Nesting (k + 1)) where
+        pub link_refused : (f : Fault) → Err f ≡ none_or (forbidden (allowed l.tolerance) (numbers_of c)) Link (k + 1) → Err f ≡ resumed k finer all levels
+        link_refused f e = sym (next ∙ rw (sym order, sym nesting, sym e) refl)
+
+        pub passed : (j : ℕ) → j ≡ k + 1 → Ok tt ≡ none_or (forbidden (allowed l.tolerance) (numbers_of c)) Link (k + 1) → resumed j (Some c) cs ls ≡ resumed k finer all levels
+        passed j d e = ap (λ m. resumed m (Some c) cs ls) d ∙ sym (next ∙ rw (sym order, sym nesting, sym e) refl)
 
 pub length_chains : (m : ℕ) (bs : List ℕ) → length (chains_in m bs) ≡ m
 length_chains zero bs = refl

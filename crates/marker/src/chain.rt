@@ -12,12 +12,12 @@ pub(crate) struct Chain<'a> {
     pub(crate) numbers: &'a [[u8; 2]],
 }
 
-// The number that two bytes write.
+// The number that two bytes write. A function of its own, for `map` takes it and its contract gives `little` and the bound.
 pub(crate) fn number(bytes: &[u8; 2]) -> usize
     ensures value { result ≡ little bytes.now }
     ensures bound { result < 65536 }
 {
-    u16::from_le_bytes(*bytes) as usize
+    usize::from(u16::from_le_bytes(*bytes))
 }
 
 impl<'a> Chain<'a> {
@@ -39,6 +39,7 @@ impl<'a> Chain<'a> {
     }
 
     // The lowest position that is out of order in a chain of a line of n vertices.
+    // A loop, for each step needs the number before: `try_fold` is no shorter, and no lemma says what it gives over a list.
     pub(crate) fn first_disorder(&self, n: usize) -> Option<usize>
         ensures { result ≡ disorder n (numbers_of self.now) }
     {

@@ -1,8 +1,8 @@
 // One chain under its measure, level and price.
-ghost use Rattle.std.specs.Prelude.{◌≡◌, ℕ, ◌+◌, length};
+ghost use Rattle.std.specs.Prelude.{◌≡◌, ℕ, ◌+◌};
 ghost use Rattle.families.specs.Chain.{links};
 ghost use Rattle.families.specs.Family.{cost};
-ghost use Rattle.marker.specs.Judge.{forbidden, none_or, judged_chain};
+ghost use Rattle.marker.specs.Judge.{forbidden, none_or};
 ghost use Rattle.marker.specs.Chain.{numbers_of};
 
 use crate::chain::{Chain, number};
@@ -13,7 +13,8 @@ use measures::measure::Measure;
 use prices::price::Price;
 
 // No position is at fault in the chain of level k, or the one found is named.
-fn none_or(found: Option<usize>, cause: Cause, k: usize) -> Result<(), Fault>
+// The fault is a literal, for it has a spot: `Fault::new` gives spot 0.
+pub(crate) fn none_or(found: Option<usize>, cause: Cause, k: usize) -> Result<(), Fault>
     ensures { result ≡ none_or found cause k }
 {
     match found {
@@ -40,22 +41,6 @@ pub(crate) fn first_forbidden<M: Measure>(
     let to = chain.numbers.iter().skip(1).map(number);
     from.zip(to)
         .position(|(i, j)| !measure.allows(line, i, j, t))
-}
-
-// Judges the chain of level k under the next finer one: order, then nesting, then links.
-pub(crate) fn judge_chain<M: Measure>(
-    measure: &M,
-    line: &Line,
-    chain: Chain,
-    finer: Chain,
-    k: usize,
-    t: u32,
-) -> Result<(), Fault>
-    ensures { result ≡ judged_chain (λ i j. M.Measure.says measure.now line.now.vertices.now i j t) (length line.now.vertices.now) k (numbers_of finer.entry) (numbers_of chain.entry) }
-{
-    none_or(chain.first_disorder(line.count()), Cause::Order, k)?;
-    none_or(chain.first_missing(finer), Cause::Nesting, k)?;
-    none_or(first_forbidden(measure, line, chain, t), Cause::Link, k)
 }
 
 // The prices of the chain's links at a weight, joined.

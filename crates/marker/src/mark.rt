@@ -6,7 +6,7 @@ ghost use Rattle.marker.specs.Records.{chains_in, chain_of};
 ghost use Rattle.marker.specs.Judge.{judged_chains};
 ghost use Rattle.marker.specs.Marker.{marked, MarksFamilies};
 
-use crate::level::{chain_cost, judge_chain};
+use crate::level::{chain_cost, first_forbidden, none_or};
 use crate::records::{Chains, structure};
 use lines::fault::{Cause, Fault, Layer};
 use lines::level::{Level, check_count, check_levels};
@@ -25,19 +25,24 @@ struct Family<'line, 'levels, 'records> {
 }
 
 impl<'line, 'levels, 'records> Family<'line, 'levels, 'records> {
-    // Judges the chains level by level. The finest has no finer one: it is held against itself.
+    // Judges the chains level by level: order, then nesting, then links.
+    // The finest has no finer one: it is held against itself.
     fn judge<M: Measure>(&self, measure: &M) -> Result<(), Fault>
         ensures { result ≡ judged_chains (λ t i j. M.Measure.says measure.now self.now.line.vertices.now i j t) (length self.now.line.vertices.now) (chains_in self.now.chains.left self.now.chains.rest.now) self.now.levels.now }
     {
         let mut finer = None;
         for (i, (chain, level)) in self.chains.zip(self.levels).enumerate() {
-            judge_chain(
-                measure,
-                &self.line,
-                chain,
-                finer.unwrap_or(chain),
-                i + 1,
-                level.tolerance,
+            let k = i + 1;
+            none_or(chain.first_disorder(self.line.count()), Cause::Order, k)?;
+            none_or(
+                chain.first_missing(finer.unwrap_or(chain)),
+                Cause::Nesting,
+                k,
+            )?;
+            none_or(
+                first_forbidden(measure, &self.line, chain, level.tolerance),
+                Cause::Link,
+                k,
             )?;
             finer = Some(chain);
         }

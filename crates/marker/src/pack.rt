@@ -21,6 +21,7 @@ use prices::price::Price;
 
 // Marks under the price with its number; the answer is the form of the total.
 // A `match` turns the number into a type: no `dyn Price` can be, for its functions take no `self` and answer `Self`.
+// No struct of line, levels and records, here and in `mark_numbered`: it would serve this one private function.
 fn mark_priced<M: Measure>(
     measure: &M,
     price: PriceKind,
@@ -39,7 +40,8 @@ fn mark_priced<M: Measure>(
 }
 
 // Marks under the measure and the price with their numbers.
-// A `match` here too: no `dyn Measure` can be, for it has a constant, and a trait for what is done under a measure is longer.
+// A `match` here too: no `dyn Measure` can be, for it has a constant. A trait for what is done under a measure and a price
+// was tried: it takes 78 lines in packs, saves one here and next to none in drawings.
 pub fn mark_numbered(
     measure: MeasureKind,
     price: PriceKind,
@@ -69,6 +71,7 @@ fn mark_job(place: &Place, job: Job, records: &[u8]) -> Result<(u32, u64), Fault
 }
 
 // Marks a family pack: answers the form of its total, or the first fault.
+#[tactic(auto, using(crate::proofs::Packs::marks_packs))]
 pub fn mark_pack(bytes: &[u8]) -> Result<(u32, u64), Fault>
     ensures answer { result ≡ pack_marked bytes.now }
     ensures valid_exactly_for_true_families { MarksPacks bytes.now }

@@ -23,14 +23,14 @@ impl fmt::Display for Verdict {
     }
 }
 
-// The line of a refusal.
+// The line of a refusal. A public call of its own: it answers the text in memory, which `Display` writes.
 pub fn refusal_line(heap: Global, fault: Fault) -> Result<String, AllocError>
     ensures { IfOk result (λ s. string_bytes s ≡ refused_text fault) }
 {
     fault.to_string(heap)
 }
 
-// The line of a verdict.
+// The line of a verdict, likewise.
 pub fn verdict_line(heap: Global, verdict: Result<(u32, u64), Fault>) -> Result<String, AllocError>
     ensures { IfOk result (λ s. string_bytes s ≡ verdict_text verdict) }
 {

@@ -1,10 +1,10 @@
 -- How far a vertex lies apart from a link, and the tests that it passes. Assumes nothing.
-use Rattle.std.proofs.Common.{◌≡◌, ℕ, ◌*◌, ◌≤◌, max, Bool, false, ◌&&◌, leb, ℤ, pos, negsuc, ◌-ℤ◌, ◌*ℤ◌, nat_abs, sym, refl, ap, ◌∙◌, ap₂, mul-le-mul_right, mul-le-mul, arith}
+use Rattle.std.proofs.Common.{◌≡◌, ℕ, ◌*◌, ◌≤◌, max, Bool, false, ◌&&◌, leb, pos, ◌-ℤ◌, nat_abs, sym, ap, ◌∙◌, ap₂, mul-le-mul_right, mul-le-mul, arith}
 use lib.Signed.{le_z}
 use Rattle.std.proofs.lemmas.Bool.Decides.{nat_tests}
 use Rattle.lines.specs.declared.vertex.Vertex.{Vertex}
 use Rattle.measures.specs.declared.apart.Apart.{Apart}
-use Rattle.measures.specs.Plane.{cross, squared}
+use Rattle.measures.specs.Plane.{squared}
 use Rattle.measures.specs.Apart.{apart_within}
 use Rattle.measures.specs.Rising.{squares}
 
@@ -13,23 +13,12 @@ squared_is p q =
     let e = squares (q.x -ℤ p.x) (q.y -ℤ p.y) in
     e ∙ ap pos (sym (ap nat_abs e))
 
-square_is : (z : ℤ) → z *ℤ z ≡ pos (nat_abs z * nat_abs z)
-square_is (pos a) = refl
-square_is (negsuc a) = refl
-
 -- what lies r apart from an end that counts
 pub end_counts : (p v : Vertex) (r : ℕ) → r ≡ nat_abs (squared p v) → (a b : Vertex) (t : ℕ) →
     le_z (squared p v) (pos (t * t)) ≡ apart_within (record { far = r; off = 0 }) a b t
 end_counts p v r e a b t =
     let d : leb r (t * t) ≡ (leb r (t * t) && leb 0 (t * t * nat_abs (squared a b))) = grind (arith, nat_tests) in
     ap (λ z. le_z z (pos (t * t))) (squared_is p v) ∙ ap (λ n. leb n (t * t)) (sym e) ∙ d
-
--- what lies r off the straight line
-pub line_counts : (p q v : Vertex) (r : ℕ) → r ≡ nat_abs (cross p q v) * nat_abs (cross p q v) → (t : ℕ) →
-    le_z (cross p q v *ℤ cross p q v) (pos (t * t) *ℤ squared p q) ≡ apart_within (record { far = 0; off = r }) p q t
-line_counts p q v r e t =
-    let d : leb r (t * t * nat_abs (squared p q)) ≡ (leb 0 (t * t) && leb r (t * t * nat_abs (squared p q))) = grind (arith, nat_tests) in
-    ap₂ le_z (square_is (cross p q v)) (ap (λ z. pos (t * t) *ℤ z) (squared_is p q)) ∙ ap (λ n. leb n (t * t * nat_abs (squared p q))) (sym e) ∙ d
 
 -- what is not within a tolerance is not within a smaller one
 pub within_falls : (a : Apart) (p q : Vertex) (s t : ℕ) → s ≤ t → apart_within a p q t ≡ false → apart_within a p q s ≡ false

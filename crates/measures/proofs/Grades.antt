@@ -1,6 +1,6 @@
 -- The first level that passes a test. Assumes nothing.
-use Rattle.std.proofs.Common.{◌≡◌, ℕ, zero, suc, ◌+◌, ◌-◌, ◌<◌, ◌≤◌, Bool, true, false, cond, ◌&&◌, leb, nat_le, ◌⊎◌, inl, inr, List, [], ◌∷◌, map, filter, length, get_or, Some, None, Option, sym, refl, ap, ◌∙◌, subst, add-one, arith}
-use Rattle.std.specs.List.{All, AllWithin, HoldsAt}
+use Rattle.std.proofs.Common.{◌≡◌, ℕ, zero, suc, ◌+◌, ◌-◌, ◌<◌, ◌≤◌, Bool, true, false, cond, ◌&&◌, leb, ◌⊎◌, inl, inr, List, length, get_or, Some, None, Option, sym, refl, ap, ◌∙◌, subst, add-one, arith}
+use Rattle.std.specs.List.{AllWithin, HoldsAt}
 use Rattle.std.specs.Option.{MatchOption, option_map, unwrap_or}
 use Rattle.std.proofs.lemmas.Bool.{cond-true, cond-false, and_from, le-leb, cases_lt}
 use Rattle.std.proofs.lemmas.Bool.Decides.{nat_tests}
@@ -90,20 +90,6 @@ pub found_first : (passes : ℕ → Bool) (ls : List Level) (r : Option ℕ) →
     option_map (λ k. k + 1) r ≡ first_passing passes ls
 found_first passes ls None f = none_is passes ls (λ k h. f k (level 0 0) (omega arith) h)
 found_first passes ls (Some k) f = first_is passes ls k f.0 (f.1 (level 0 0)) (λ h l. f.2 h (level 0 0) (omega arith) l)
-
-tail_of : (P : ℕ → Type 0) (x : Bool) (y : ℕ) (ys : List ℕ) → All P (cond x (y ∷ ys) ys) → All P ys
-tail_of P true y ys c = λ i d l. c (suc i) d (omega (arith, l))
-tail_of P false y ys c = c
-
--- the widest tolerance up to a largest: no level's that is up to it is wider
-pub covers_each : (largest most : ℕ) (ls : List Level) → All (λ t. t ≤ most) (filter (λ t. nat_le t largest) (map (λ (l : Level). l.tolerance) ls)) →
-    (k : ℕ) → k < length ls → (get_or ls k (level 0 0)).tolerance ≤ largest → (get_or ls k (level 0 0)).tolerance ≤ most
-covers_each largest most [] covers k h b = absurd (omega (arith, h))
-covers_each largest most (l ∷ ls) covers zero h b =
-    subst (λ x. All (λ t. t ≤ most) (cond x (l.tolerance ∷ filter (λ t. nat_le t largest) (map (λ (l : Level). l.tolerance) ls)) (filter (λ t. nat_le t largest) (map (λ (l : Level). l.tolerance) ls))))
-    (le-leb l.tolerance largest b) covers 0 0 (omega arith)
-covers_each largest most (l ∷ ls) covers (suc k) h b =
-    covers_each largest most ls (tail_of (λ t. t ≤ most) (nat_le l.tolerance largest) l.tolerance _ covers) k (omega (arith, h)) b
 
 -- the first level, or else one more than there are levels, is the grade
 pub grade_back : (passes : ℕ → Bool) (ls : List Level) → unwrap_or (first_passing passes ls) (length ls + 1) ≡ first_level passes ls

@@ -2,3 +2,4 @@ pub mod Products
 pub mod AllNear
 pub mod Distances
 pub mod Grades
+pub mod First

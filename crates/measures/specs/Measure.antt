@@ -1,5 +1,5 @@
 -- What every measure keeps. Assumes nothing.
-use Rattle.std.specs.Prelude.{◌≡◌, ℕ, ◌+◌, ◌<◌, ◌≤◌, Bool, true, cond, ◌&&◌, List, length, Some, None, Option, nat_le}
+use Rattle.std.specs.Prelude.{◌≡◌, ℕ, ◌+◌, ◌<◌, ◌≤◌, Bool, true, cond, ◌&&◌, T, List, length, Some, None, Option, nat_le}
 use Rattle.lines.specs.Line.{Lawful}
 use Rattle.lines.specs.Level.{level_of}
 use Rattle.lines.specs.declared.vertex.Vertex.{Vertex}
@@ -41,4 +41,9 @@ first_passing passes ls = level_in (length ls) (first_level passes ls)
 
 -- The first level that allows the link i → j; none when no level does.
 abbrev pub first_allowing : Answer → List Vertex → List Level → ℕ → ℕ → Option ℕ
-first_allowing says vs ls i j = level_in (length ls) (grade says vs ls i j)
+first_allowing says vs ls i j = first_passing (says vs i j) ls
+
+-- An answer is the first of m levels that is allowed: that level is, and none before it. None is answered exactly when no level is.
+abbrev pub FirstAllowed : (ℕ → Bool) → ℕ → Option ℕ → Type 0
+FirstAllowed allowed m (Some k) = (1 ≤ k) × (k ≤ m) × T (allowed k) × ((h : ℕ) → 1 ≤ h → h < k → T (allowed h) → ⊥)
+FirstAllowed allowed m None = (k : ℕ) → 1 ≤ k → k ≤ m → T (allowed k) → ⊥

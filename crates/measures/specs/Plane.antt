@@ -22,6 +22,10 @@ abbrev pub every : (ℕ → Bool) → ℕ → ℕ → Bool
 every test k zero = true
 every test k (suc more) = every test k more && test (k + more)
 
+-- The largest tolerance of the measures that ask about each skipped vertex by itself.
+abbrev pub skipped_largest : ℕ
+skipped_largest = 32768
+
 -- A measure that asks about each skipped vertex by itself: `near p q v t` says whether v lies near the link p → q.
 abbrev pub each_skipped : ℕ → (Vertex → Vertex → Vertex → ℕ → Bool) → Answer
 each_skipped largest near vs i j t =

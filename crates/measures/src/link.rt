@@ -2,7 +2,7 @@
 ghost use Rattle.std.specs.Prelude.{◌≡◌, ◌*◌, ◌≤◌, ◌-ℤ◌, unsigned_abs, true, false, slice_index_or, IfSome, IfNone};
 ghost use Rattle.lines.specs.Vertex.{origin};
 ghost use Rattle.lines.specs.Line.{is_link};
-ghost use Rattle.measures.specs.Plane.{dot, cross, squared};
+ghost use Rattle.measures.specs.Plane.{dot, cross, squared, skipped_largest};
 
 use crate::apart::Apart;
 use crate::plane::{Point, Way};
@@ -52,7 +52,7 @@ impl Link {
 
     // How far apart from the link a vertex may lie at the tolerance t.
     pub(crate) fn permits(self, t: u32) -> Apart
-        requires { t ≤ 32768 }
+        requires { t ≤ skipped_largest }
         ensures far { result.far ≡ t * t }
         ensures off { result.off ≡ t * t * unsigned_abs (squared self.p.vertex self.q.vertex) }
     {

@@ -1,5 +1,5 @@
-ghost use Rattle.std.specs.Prelude.{◌≡◌, ℕ, Bool};
-ghost use Rattle.measures.specs.Measure.{Answer, Rules, first_passing, first_allowing};
+ghost use Rattle.std.specs.Prelude.{◌≡◌, ℕ, Bool, length};
+ghost use Rattle.measures.specs.Measure.{Answer, Rules, allowed_by, first_passing, first_allowing, FirstAllowed};
 
 use lines::level::Level;
 use lines::line::Line;
@@ -13,13 +13,14 @@ pub trait Measure {
 
     ghost says: { Self → Answer };
 
-    // Whether the link from i to j is allowed at the tolerance t.
+    // Whether the link from i to j is allowed at the tolerance t. A link is two numbers, as callers have them, and no struct to be made for each question.
     fn allows(&self, line: &Line, i: usize, j: usize, t: u32) -> bool
         ensures { result ≡ says self.now line.now.vertices.now i j t };
 
     // The first of the levels that allows the link from i to j; none where no level does.
     fn first_level(&self, line: &Line, levels: &[Level], i: usize, j: usize) -> Option<usize>
-        ensures { result ≡ first_allowing (says self.now) line.now.vertices.now levels.now i j }
+        ensures answer { result ≡ first_allowing (says self.now) line.now.vertices.now levels.now i j }
+        ensures tells_first_level { FirstAllowed (λ k. allowed_by (says self.now) line.now.vertices.now levels.now k i j) (length levels.now) result }
     {
         first_passing(levels, |t| self.allows(line, i, j, t))
     }

@@ -1,9 +1,9 @@
 // Measures that ask about each skipped vertex by itself: whatever says how far one vertex lies from a link is such a measure.
-ghost use Rattle.std.specs.Prelude.{◌≡◌, ℕ, ◌<◌, ◌≤◌, ◌&&◌, length, nat_le, slice_index_or, map, filter, All};
+ghost use Rattle.std.specs.Prelude.{◌≡◌, ℕ, ◌<◌, ◌≤◌, ◌&&◌, length, nat_le, slice_index_or, All};
 ghost use Rattle.lines.specs.Vertex.{origin};
 ghost use Rattle.lines.specs.Line.{Lawful};
 ghost use Rattle.lines.specs.declared.level.Level.{Level};
-ghost use Rattle.measures.specs.Plane.{Near, each_skipped};
+ghost use Rattle.measures.specs.Plane.{Near, each_skipped, skipped_largest};
 ghost use Rattle.measures.specs.Apart.{apart_within, Found};
 ghost use Rattle.measures.specs.Rising.{Rises};
 ghost use Rattle.measures.specs.Skipped.{each_skipped_rules};
@@ -30,17 +30,13 @@ pub(crate) trait Nearness {
     ghost rises: { Rises near };
 }
 
-// The largest of the tolerances that are not above the largest of these measures.
+// A tolerance as wide as the widest of the levels, up to the largest of these measures.
 fn widest(levels: &[Level]) -> u32
-    ensures bound { result ≤ 32768 }
-    ensures covers { All (λ t. t ≤ result) (filter (λ t. nat_le t 32768) (map (λ (l : Level). l.tolerance) levels.now)) }
+    ensures bound { result ≤ skipped_largest }
+    ensures covers { All (λ (l : Level). l.tolerance ≤ skipped_largest → l.tolerance ≤ result) levels.now }
 {
-    levels
-        .iter()
-        .map(|level| level.tolerance)
-        .filter(|t| *t <= LARGEST)
-        .max()
-        .unwrap_or(0)
+    let widest = levels.iter().map(|level| level.tolerance).max();
+    widest.unwrap_or(0).min(LARGEST)
 }
 
 // The most that a skipped vertex of i → j lies apart from this link, or nothing as soon as one is not near at the tolerance t.
@@ -51,13 +47,14 @@ fn farthest<N: Nearness>(
     j: usize,
     t: u32,
 ) -> Option<Apart>
-    requires inside { (Lawful vertices.now) × ((i < j) × ((j < length vertices.now) × (t ≤ 32768))) }
+    requires inside { (Lawful vertices.now) × ((i < j) × ((j < length vertices.now) × (t ≤ skipped_largest))) }
     requires start { link.p.vertex ≡ slice_index_or vertices.now i origin }
     requires end { link.q.vertex ≡ slice_index_or vertices.now j origin }
     ensures { Found N.near vertices.now i j t result }
 {
     let limit = link.permits(t);
     let mut most = Apart::default();
+    // A loop, no chain: each step joins the most so far, and ends the pass where it fails.
     for v in &vertices[i + 1..j] {
         let apart = N::apart(link, Point::new(*v));
         if !apart.within(limit) {
@@ -70,7 +67,7 @@ fn farthest<N: Nearness>(
 
 // Whether a vertex may lie this far apart from the link at the tolerance t.
 fn near_at(link: Link, apart: Apart, t: u32) -> bool
-    ensures { result ≡ (nat_le t 32768 && apart_within apart link.p.vertex link.q.vertex t) }
+    ensures { result ≡ (nat_le t skipped_largest && apart_within apart link.p.vertex link.q.vertex t) }
 {
     t <= LARGEST && apart.within(link.permits(t))
 }
@@ -78,11 +75,11 @@ fn near_at(link: Link, apart: Apart, t: u32) -> bool
 impl<N: Nearness> Measure for N {
     const LARGEST: u32 = LARGEST;
 
-    ghost LARGEST = { 32768 };
+    ghost LARGEST = { skipped_largest };
 
-    ghost says = { λ _. each_skipped 32768 N.near };
+    ghost says = { λ _. each_skipped skipped_largest N.near };
 
-    ghost rules = { λ m. each_skipped_rules 32768 N.near N.rises };
+    ghost rules = { λ m. each_skipped_rules skipped_largest N.near N.rises };
 
     fn allows(&self, line: &Line, i: usize, j: usize, t: u32) -> bool {
         if t > LARGEST {

@@ -8,11 +8,12 @@ use lines::vertex::Vertex;
 use std::process::Abort;
 use std::test::Fail;
 
+// `at` and `says` stand in the tests of approvals too: no helper of tests is shared between crates without a public function.
 fn at(x: i16, y: i16) -> Vertex {
     Vertex { x, y }
 }
 
-// The measure gives this answer for the link i → j of these vertices at the tolerance t.
+// The measure gives this answer for the link i → j of these vertices at the tolerance t. A call is a row; a struct would be made in each.
 fn says<M: Measure>(
     rt: &impl Abort,
     answer: bool,
@@ -105,13 +106,13 @@ fn level(tolerance: u32) -> Level {
     }
 }
 
-// The grade of a link: its first level, or one more than there are levels.
+// The grade of a link: its first level, or one more than there are levels, so that the tests expect one number.
 fn grade<M: Measure>(m: &M, line: &Line, levels: &[Level], i: usize, j: usize) -> usize {
     m.first_level(line, levels, i, j)
         .unwrap_or(levels.len() + 1)
 }
 
-// The grade is what asking level by level gives.
+// The grade is what asking level by level gives. Its arguments are those of the question; a struct would serve this one function.
 fn grade_is_first<M: Measure>(
     rt: &impl Abort,
     m: &M,

@@ -1,4 +1,3 @@
-pub mod Fields
 pub mod Records
 pub mod Items
 pub mod Signs

@@ -1,20 +1,8 @@
 -- Signed 16-bit numbers. Assumes nothing.
-use Rattle.std.proofs.Common.{◌≡◌, ℕ, ◌-◌, ◌<◌, ◌≤◌, ◌⊎◌, ℤ, pos, negsuc, refl, ap, ◌∙◌, inl, inr, arith, w16, to_z, of_z}
+use Rattle.std.proofs.Common.{◌≡◌, ℕ, ◌-◌, ◌<◌, ◌≤◌, ◌⊎◌, ℤ, pos, negsuc, refl, ap, inl, inr, arith}
 use lib.Signed.{mag}
-use Rattle.std.proofs.lemmas.Int.{to_z-of_z}
 use Rattle.std.proofs.lemmas.Bool.{cases_lt, lt-ltb, le-ltb}
 use Rattle.packs.specs.Bytes.{signed, unsigned}
-
-signed_is : (n : ℕ) → to_z w16 n ≡ signed n
-signed_is n = go (cases_lt n 32768)
-  where
-    go : (n < 32768) ⊎ (32768 ≤ n) → to_z w16 n ≡ signed n
-    go (inl h) = rw (lt-ltb n 32768 h) refl
-    go (inr h) = rw (le-ltb n 32768 h) (ap negsuc (omega arith))
-
--- a coordinate, as the code reads it
-pub coordinate : (z : ℤ) (n m : ℕ) → mag z < 32768 → z ≡ to_z w16 n → n ≡ m → to_z w16 (of_z w16 z) ≡ signed m
-coordinate z n m h e d = to_z-of_z w16 z (record { sfits = h }) ∙ e ∙ signed_is n ∙ ap signed d
 
 -- reading what was written
 pub signed_unsigned : (z : ℤ) → mag z < 32768 → signed (unsigned z) ≡ z

@@ -19,6 +19,7 @@ fn part<const N: usize>(bytes: &[u8], at: usize) -> [u8; N]
 }
 
 // The 16-bit number at a place.
+// The three numbers are three public calls of one line over `part`: a generic one, by a trait with `from_le_bytes`, would only be a fourth.
 pub fn u16_at(bytes: &[u8], at: usize) -> u16
     ensures { result ≡ field 2 at bytes.now }
 {

@@ -43,7 +43,7 @@ impl TryFrom<u8> for MeasureKind {
     }
 }
 
-// The price with a number.
+// The price with a number. A table of its own: it shares but the frame with that of the measures.
 impl TryFrom<u8> for PriceKind {
     type Error = UnknownNumber;
 

@@ -5,8 +5,8 @@ ghost use Rattle.lines.specs.Level.{level};
 use lines::level::Level;
 use lines::vertex::Vertex;
 
-// A place for a job: 256 vertices and 8 levels.
-// The arrays are fixed and carry no counts: readers use no heap, and what lies past what was read stays as it was.
+// A place for a job: whole arrays of 256 vertices and 8 levels that the caller lends, for readers use no heap.
+// They carry no counts: readers promise that what lies past what they read stays as it was.
 #[derive(Drop)]
 pub struct Place {
     pub vertices: [Vertex; 256],

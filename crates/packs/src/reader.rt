@@ -19,10 +19,10 @@ trait Item: Copy {
 
     ghost from_bytes: { List ℕ → Self };
 
-    // The item at a place.
-    fn read(bytes: &[u8], at: usize) -> Self
-        requires { at + WIDTH ≤ length bytes.now }
-        ensures { result ≡ from_bytes (drop at bytes.now) };
+    // The item that bytes begin with.
+    fn read(bytes: &[u8]) -> Self
+        requires { WIDTH ≤ length bytes.now }
+        ensures { result ≡ from_bytes bytes.now };
 }
 
 impl Item for Vertex {
@@ -32,10 +32,10 @@ impl Item for Vertex {
 
     ghost from_bytes = { vertex_from };
 
-    fn read(bytes: &[u8], at: usize) -> Vertex {
+    fn read(bytes: &[u8]) -> Vertex {
         Vertex {
-            x: u16_at(bytes, at).cast_signed(),
-            y: u16_at(bytes, at + 2).cast_signed(),
+            x: u16_at(bytes, 0).cast_signed(),
+            y: u16_at(bytes, 2).cast_signed(),
         }
     }
 }
@@ -47,21 +47,24 @@ impl Item for Level {
 
     ghost from_bytes = { level_from };
 
-    fn read(bytes: &[u8], at: usize) -> Level {
+    fn read(bytes: &[u8]) -> Level {
         Level {
-            tolerance: u32_at(bytes, at),
-            weight: u32_at(bytes, at + 4),
+            tolerance: u32_at(bytes, 0),
+            weight: u32_at(bytes, 4),
         }
     }
 }
 
-// Fills `out` with the items from a place on.
-fn read_items<T: Item>(bytes: &[u8], at: usize, out: &mut [T])
-    requires { at + T.Item.WIDTH * length out.old ≤ length bytes.now }
-    ensures { out.new ≡ items T.Item.WIDTH T.Item.from_bytes (length out.old) (drop at bytes.now) }
+// Fills `out` with the items that bytes begin with.
+// Tried with `zip` and `chunks_exact`: when that loop is over, nothing is known of what went through the `iter_mut` in it.
+fn read_items<T: Item>(bytes: &[u8], out: &mut [T])
+    requires { T.Item.WIDTH * length out.old ≤ length bytes.now }
+    ensures { out.new ≡ items T.Item.WIDTH T.Item.from_bytes (length out.old) bytes.now }
 {
-    for (i, item) in out.iter_mut().enumerate() {
-        *item = T::read(bytes, at + T::WIDTH * i);
+    let mut rest = bytes;
+    for item in out.iter_mut() {
+        *item = T::read(rest);
+        rest = &rest[T::WIDTH..];
     }
 }
 
@@ -96,10 +99,12 @@ impl<'a> Head<'a> {
     {
         let layout = self.layout;
         let mut place = Place::blank();
-        read_items(self.bytes, 14, &mut place.vertices[0..layout.vertices / 4]);
         read_items(
-            self.bytes,
-            20 + layout.vertices,
+            &self.bytes[14..],
+            &mut place.vertices[0..layout.vertices / 4],
+        );
+        read_items(
+            &self.bytes[20 + layout.vertices..],
             &mut place.levels[0..layout.levels / 8],
         );
         place
@@ -111,6 +116,7 @@ impl<'a> Head<'a> {
         ensures vertices { place.new.vertices ≡ placed_vertices (content_in self.now.bytes.now self.now.layout) place.old.vertices }
         ensures levels { place.new.levels ≡ placed_levels (content_in self.now.bytes.now self.now.layout) place.old.levels }
     {
+        // The project rules `let .. else` for these two lookups.
         let Ok(measure) = MeasureKind::try_from(u8_at(self.bytes, 6)) else {
             return Err(Fault::new(Cause::Unknown, Layer::Content, 0));
         };

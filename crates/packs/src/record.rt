@@ -5,7 +5,7 @@ use crate::bytes::{u16_at, u32_at};
 use lines::fault::{Cause, Fault, Layer};
 
 // The record that is due at a place. A chain's is told the number of vertices of its line.
-// Its numbers stand in `kind` and are no discriminants: Rust allows none with `as` where a variant has a payload.
+// Its numbers stand in `kind` and are no discriminants: where a variant has a payload, `as` does not read them.
 #[derive(Clone, Copy)]
 pub enum Due {
     Numbers,

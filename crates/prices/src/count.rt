@@ -29,6 +29,7 @@ impl Price for Count {
         }
     }
 
+    // The order of the numbers; the interface says why it is no `PartialOrd`.
     fn not_dearer(self, other: Count) -> bool {
         self.count <= other.count
     }

@@ -26,6 +26,7 @@ impl CountThenArea {
     }
 }
 
+// An `impl` of its own: it shares but the frame with that of `Count`.
 impl Price for CountThenArea {
     ghost kind = { count_then_area_kind };
 
@@ -46,6 +47,7 @@ impl Price for CountThenArea {
         }
     }
 
+    // The order of the forms, those of pairs; the interface says why it is no `PartialOrd`.
     fn not_dearer(self, other: CountThenArea) -> bool {
         self.form() <= other.form()
     }

@@ -11,7 +11,7 @@ use prices::price::Price;
 use tables::price_table::PriceTable;
 use tables::terms::Terms;
 
-// The vertex v, if it lies before j, stays to level k. Written in the walk itself, what the `if` left would be lost at the next call.
+// The vertex v, if it lies before j, stays to level k. A function of its own, whose contract tells the walk what either branch leaves.
 fn put_stay(stays: &mut [u8], v: usize, j: usize, k: usize)
     requires { (j ≤ length stays.old) × (k ≤ 8) }
     ensures here { v < j → slice_index stays.new v ≡ k }
@@ -24,15 +24,16 @@ fn put_stay(stays: &mut [u8], v: usize, j: usize, k: usize)
 
 // The terms of a search, and the price table that was filled by them.
 #[derive(Drop)]
-pub(crate) struct Walk<'a, 'b, P: Price> {
-    pub(crate) terms: Terms<'a>,
-    pub(crate) prices: &'b PriceTable<'b, P>,
+pub(crate) struct Walk<'a, 'b, 'c, P: Price> {
+    pub(crate) terms: Terms<'a, 'b>,
+    pub(crate) prices: &'c PriceTable<'c, P>,
     ghost few: { (1 ≤ length terms.levels.now) × (length terms.levels.now ≤ 8) },
     ghost covers: { prices.now.n ≡ length terms.line.vertices.now },
     ghost filled: { TableHolds P.kind (costs P.link terms) (grants terms) prices.now.cells.now prices.now.n (length terms.levels.now) } by { holds_prop P.code P.kind (costs P.link terms) (grants terms) prices.now.cells.now prices.now.n (length terms.levels.now) },
 }
 
-impl<'a, 'b, P: Price> Walk<'a, 'b, P> {
+// The level and the ends of a way are no fields: they change from call to call, so each method says its own bounds.
+impl<'a, 'b, 'c, P: Price> Walk<'a, 'b, 'c, P> {
     // What it costs at least to go from i to j at level k when the first link is i → v.
     fn candidate(&self, k: usize, i: usize, j: usize, v: usize) -> P
         requires level { (1 ≤ k) × (k ≤ length self.now.terms.levels.now) }
@@ -45,6 +46,7 @@ impl<'a, 'b, P: Price> Walk<'a, 'b, P> {
     }
 
     // Whether level k allows the link i → v, and the way from i over v to j costs no more than the best.
+    // The best is handed in, since it is read once for all v; a struct of it with k, i and j would serve one call.
     fn attains(&self, k: usize, i: usize, j: usize, v: usize, best: P) -> bool
         requires level { (1 ≤ k) × (k ≤ length self.now.terms.levels.now) }
         requires ends { (i < v) × ((v ≤ j) × (j < self.now.prices.now.n)) }

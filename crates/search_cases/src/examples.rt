@@ -1,25 +1,15 @@
 // Worked examples: approvals on seven and on four vertices.
-use crate::memory::finds;
+use crate::memory::{at, finds, level};
 use approvals::approvals::Approvals;
 use layers::pins::Pins;
 use layers::reach::Reach;
 use lines::fault::Fault;
-use lines::level::Level;
 use lines::line::Line;
-use lines::vertex::Vertex;
 use measures::measure::Measure;
 use prices::count::Count;
 use prices::count_then_area::CountThenArea;
 use std::process::Abort;
 use std::test::Fail;
-
-fn at(x: i16, y: i16) -> Vertex {
-    Vertex { x, y }
-}
-
-fn level(tolerance: u32, weight: u32) -> Level {
-    Level { tolerance, weight }
-}
 
 // 1 → 5 from 1; 0 → 3 and 3 → 6 from 2.
 fn seven() -> Result<Approvals, Fault> {

@@ -1,5 +1,5 @@
 // All families of small lines, listed one by one: the search answers the cheapest total of all.
-use crate::memory::search;
+use crate::memory::{at, level, search};
 use layers::pins::Pins;
 use lines::fault::Fault;
 use lines::level::Level;
@@ -16,7 +16,7 @@ use search::chain::next_on_chain;
 use std::process::Abort;
 use std::test::Fail;
 
-// The prices of the links of level k joined to a sum, or none where a link is not allowed.
+// The prices of the links of level k joined to a sum, or none where a link is not allowed. It serves `total` alone.
 fn with_level<M: Measure, P: Price>(
     measure: &M,
     line: &Line,
@@ -27,6 +27,7 @@ fn with_level<M: Measure, P: Price>(
 ) -> Option<P> {
     let mut sum = sum;
     let mut v = 0;
+    // A walk: each step asks for the next vertex, and a chain has no more links than there are stays.
     for _ in 0..stays.len() {
         let Some(w) = next_on_chain(stays, k, v) else {
             return Some(sum);
@@ -53,14 +54,12 @@ fn total<M: Measure, P: Price>(
 
 // The cheapest total over all stays of six vertices and two levels; the ends stay to level 2.
 fn cheapest<M: Measure, P: Price>(measure: &M, line: &Line, levels: &[Level; 2]) -> Option<P> {
-    let mut best = None;
-    for code in 0..81u8 {
-        let stays = [2, code % 3, code / 3 % 3, code / 9 % 3, code / 27, 2];
-        if let Some(sum) = total::<M, P>(measure, line, levels, &stays) {
-            best = Some(best.map_or(sum, |other| cheaper(other, sum)));
-        }
-    }
-    best
+    (0..81u8)
+        .filter_map(|code| {
+            let stays = [2, code % 3, code / 3 % 3, code / 9 % 3, code / 27, 2];
+            total::<M, P>(measure, line, levels, &stays)
+        })
+        .reduce(cheaper)
 }
 
 fn cheaper<P: Price>(a: P, b: P) -> P {
@@ -88,13 +87,10 @@ fn agree<M: Measure, P: Price>(
 // Six vertices drawn from a start.
 fn drawn(start: u32) -> [Vertex; 6] {
     let mut state = start;
-    let mut vertices = [Vertex { x: 0, y: 0 }; 6];
+    let mut vertices = [at(0, 0); 6];
     for v in vertices.iter_mut() {
         state = state.wrapping_mul(1664525).wrapping_add(1013904223);
-        *v = Vertex {
-            x: ((state >> 16) & 15) as i16,
-            y: ((state >> 24) & 15) as i16,
-        };
+        *v = at(((state >> 16) & 15) as i16, ((state >> 24) & 15) as i16);
     }
     vertices
 }
@@ -128,16 +124,7 @@ fn on_many_lines<M: Measure>(
 }
 
 fn levels(fine: u32, coarse: u32) -> [Level; 2] {
-    [
-        Level {
-            tolerance: fine,
-            weight: 2,
-        },
-        Level {
-            tolerance: coarse,
-            weight: 3,
-        },
-    ]
+    [level(fine, 2), level(coarse, 3)]
 }
 
 #[test]

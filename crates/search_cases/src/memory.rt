@@ -1,12 +1,21 @@
-// A search in memory of 8 vertices and 2 levels, filled with noise before the call.
+// What the tests share: vertices and levels, and a search in memory of 8 vertices and 2 levels, filled with noise before the call.
 use lines::fault::Fault;
 use lines::level::Level;
 use lines::line::Line;
+use lines::vertex::Vertex;
 use measures::measure::Measure;
 use prices::price::Price;
 use search::least::find_least;
 use std::process::Abort;
 use std::test::Fail;
+
+pub(crate) fn at(x: i16, y: i16) -> Vertex {
+    Vertex { x, y }
+}
+
+pub(crate) fn level(tolerance: u32, weight: u32) -> Level {
+    Level { tolerance, weight }
+}
 
 // What a search answered, and the stays that it left.
 #[derive(Drop)]
@@ -30,6 +39,7 @@ pub(crate) fn search<M: Measure, P: Price>(
 }
 
 // The search finds a total of this form and these stays, whatever the memory held before; stays past the line keep the noise.
+// A call is a worked example; a struct of its arguments would be made in each.
 pub(crate) fn finds<M: Measure, P: Price>(
     rt: &impl Abort,
     measure: &M,

@@ -1,4 +1,5 @@
 // The search refuses in the order: number of levels, the levels one by one, grades, prices, stays.
+use crate::memory::level;
 use lines::fault::{Cause, Fault, Layer};
 use lines::level::Level;
 use lines::line::Line;
@@ -33,10 +34,6 @@ fn refuses(
 ) -> Result<(), Fail> {
     assert_eq!(rt; answer.err(), Some(Fault::new(cause, Layer::Sheet, place)));
     Ok(())
-}
-
-fn level(tolerance: u32, weight: u32) -> Level {
-    Level { tolerance, weight }
 }
 
 #[test]

@@ -5,7 +5,7 @@ use Rattle.families.specs.Price.{Kind, cheaper}
 use Rattle.families.specs.Least.{L, cheapest}
 use Rattle.families.proofs.LeastTotal.{L_zero, L_end, L_eq}
 use Rattle.tables.specs.Price.{row}
-use Rattle.tables.specs.Row.{KeptOutside, taken, head, candidate, RowHolds, RowsHold, RowSoFar}
+use Rattle.tables.specs.Row.{KeptOutside, head, candidate, RowHolds, RowsHold, RowSoFar}
 use Rattle.tables.proofs.Places.{row_after, row_before}
 
 module _ {P : Type 0} (K : Kind P) (price : ℕ → ℕ → ℕ → P) (allowed : ℕ → ℕ → ℕ → Bool) where
@@ -25,6 +25,10 @@ module _ {P : Type 0} (K : Kind P) (price : ℕ → ℕ → ℕ → P) (allowed 
       let d : suc i + suc (v - 1 - suc i) ≡ v = omega arith in
       ap (cheapest K ok f (suc i)) e ∙
       ap (λ w. cond (ok w) (cheaper K (cheapest K ok f (suc i) (v - 1 - suc i)) (f w)) (cheapest K ok f (suc i) (v - 1 - suc i))) d
+
+  -- the cell at y after a candidate is taken in: its head joined with the cell at z, where that is cheaper
+  abbrev taken : P → List P → ℕ → ℕ → P
+  taken first cells y z = cheaper K (get_or cells y K.neutral) (K.join first (get_or cells z K.neutral))
 
   -- the cheapest candidate so far, by how far the candidates were looked at
   abbrev best_to : ℕ → ℕ → ℕ → ℕ → P
@@ -93,7 +97,7 @@ module _ {P : Type 0} (K : Kind P) (price : ℕ → ℕ → ℕ → P) (allowed 
   -- the candidates over a first link that is allowed are taken in where they are cheaper
   pub candidates_taken : (cells cells' : List P) (n k i v : ℕ) (first : P) → 1 ≤ k → suc i < v → v < n → allowed k i v ≡ true →
       RowSoFar K price allowed cells n k i v → first ≡ head K (price k i v) cells n k i v →
-      ((j : ℕ) → v ≤ j → j < n → get_or cells' (row n k i + j) K.neutral ≡ taken K first cells (row n k i + j) (row n k v + j)) →
+      ((j : ℕ) → v ≤ j → j < n → get_or cells' (row n k i + j) K.neutral ≡ taken first cells (row n k i + j) (row n k v + j)) →
       KeptOutside K cells cells' (row n k i + v) (row n k i + n) → RowSoFar K price allowed cells' n k i (v + 1)
   candidates_taken cells cells' n k i v first one h small granted r is inside outside =
       let out : KeptOutside K cells cells' (row n k i) (row n k i + n) = λ y o. outside y (⊎_elim (λ a. inl (omega arith)) (λ b. inr b) o) in
@@ -155,12 +159,3 @@ module _ {P : Type 0} (K : Kind P) (price : ℕ → ℕ → ℕ → P) (allowed 
       r.best j l b ∙ ap (best_to k i j) e ∙ sym (L_step k i j one l))
       (λ (l : j ≤ i). r.cleared j l ∙ sym (L_end K price allowed k i j l))
       (cases_lt i j)
-
-  -- a level whose rows are all filled
-  pub level_whole : (cells : List P) (n k : ℕ) → RowsHold K price allowed cells n k 0 →
-      (h v : ℕ) → 1 ≤ h → h < k + 1 → v < n → RowHolds K price allowed cells n h v
-  level_whole cells n k done h v a b d =
-      ⊎_elim
-      (λ (l : h < k). done.below h v a l d)
-      (λ (l : k ≤ h). let e : k ≡ h = omega arith in subst (λ z. RowHolds K price allowed cells n z v) e (done.here v (omega arith) d))
-      (cases_lt h k)

@@ -1,12 +1,11 @@
 -- What is read off the grade table. Assumes nothing.
-use Rattle.std.proofs.Common.{◌≡◌, ℕ, ◌+◌, ◌*◌, ◌<◌, ◌≤◌, Bool, true, false, cond, ◌&&◌, T, ltb, leb, List, length, get_or, Some, None, Option, sym, refl, ap, ◌∙◌, subst, inl, inr, ⊎_elim, arith, ltb→lt, leb→le}
+use Rattle.std.proofs.Common.{◌≡◌, ℕ, ◌+◌, ◌*◌, ◌<◌, ◌≤◌, Bool, true, false, cond, ◌&&◌, T, ltb, List, length, get_or, Some, None, Option, sym, refl, ap, ◌∙◌, subst, inl, inr, ⊎_elim, arith, ltb→lt}
 use Rattle.std.proofs.lemmas.Bool.{cases_lt, le-leb, lt-leb, lt-ltb}
 use Rattle.families.specs.Least.{first}
 use Rattle.families.proofs.Bools.{left, right}
-use Rattle.families.proofs.Next.{first_range}
-use Rattle.measures.specs.Measure.{allowed_by, level_in}
+use Rattle.measures.specs.Measure.{allowed_by, level_in, FirstAllowed}
+use Rattle.measures.proofs.First.{first_allowed}
 use Rattle.tables.specs.Grade.{first_level, reaches, FirstLevel, TellsFirstLevel}
-use Rattle.tables.proofs.First.{first_passes, none_before}
 use Rattle.tables.proofs.Parts.{part_in, part_out}
 use Rattle.tables.proofs.Places.{stretch_below}
 use borrow.Rule.Slice.PartMut.{put_mid}
@@ -25,32 +24,11 @@ module _ (allowed : ℕ → ℕ → ℕ → Bool) (m n i j : ℕ) where
 
   -- the grade as a level
   graded_level : (g : ℕ) → i < j → j < n → g ≡ first test 1 m → FirstLevel allowed m n i j (level_in m g)
-  graded_level g a b e = go (leb 1 g && leb g m) refl
+  graded_level g a b e = on_link (level_in m g) (subst (λ z. FirstAllowed test m (level_in m z)) (sym e) (first_allowed test m))
     where
-      r : (1 ≤ first test 1 m) × (first test 1 m ≤ 1 + m)
-      r = first_range test 1 m
-
-      go : (x : Bool) → (leb 1 g && leb g m) ≡ x → FirstLevel allowed m n i j (cond x (Some g) None)
-      go true q =
-          let t : T (leb 1 g && leb g m) = subst T (sym q) tt in
-          let low = leb→le 1 g (left (leb 1 g) (leb g m) t) in
-          let high = leb→le g m (right (leb 1 g) (leb g m) t) in (
-            a,
-            b,
-            low,
-            high,
-            subst (λ z. T (test z)) (sym e) (first_passes test 1 m (omega arith)),
-            λ h p l s. none_before test 1 m h p (omega arith) s,
-          )
-      go false q = λ _ _ k p l s.
-          ⊎_elim
-          (λ (h : k < first test 1 m). none_before test 1 m k p h s)
-          (λ (h : first test 1 m ≤ k).
-          let u : leb 1 g ≡ true = le-leb 1 g (omega (arith, r.0)) in
-          let w : leb g m ≡ true = le-leb g m (omega arith) in
-          let both : (leb 1 g && leb g m) ≡ true = rw (u, w) refl in
-          subst T (sym both ∙ q) tt)
-          (cases_lt k (first test 1 m))
+      on_link : (r : Option ℕ) → FirstAllowed test m r → FirstLevel allowed m n i j r
+      on_link None f = λ _ _. f
+      on_link (Some k) f = (a, b, f)
 
   -- the pair as a link, and its grade as a level
   pub link_level : (cell : ℕ) → (i < j → j < n → cell ≡ first test 1 m) →
@@ -73,8 +51,8 @@ module _ (allowed : ℕ → ℕ → ℕ → Bool) (m n i j : ℕ) where
   reaches_allowed None f a b rise k p q = sym (no_is (test k) (f a b k p q))
   reaches_allowed (Some h) f a b rise k p q =
       ⊎_elim
-      (λ (l : k < h). lt-leb h k l ∙ sym (no_is (test k) (f.5 k p l)))
-      (λ (l : h ≤ k). le-leb h k l ∙ sym (yes_is (test k) (rise h k f.2 l q f.4)))
+      (λ (l : k < h). lt-leb h k l ∙ sym (no_is (test k) (f.2.3 k p l)))
+      (λ (l : h ≤ k). le-leb h k l ∙ sym (yes_is (test k) (rise h k f.2.0 l q f.2.2)))
       (cases_lt k h)
 
 pub tells : (cells : List ℕ) (n m i j : ℕ) → TellsFirstLevel cells n m i j (first_level cells n m i j)

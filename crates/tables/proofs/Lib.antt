@@ -1,4 +1,3 @@
-pub mod First
 pub mod Places
 pub mod Parts
 pub mod Cells

@@ -1,5 +1,5 @@
 -- Where rows lie. Assumes nothing.
-use Rattle.std.proofs.Common.{◌≡◌, ℕ, ◌+◌, ◌-◌, ◌*◌, ◌<◌, ◌≤◌, sym, mul-le-mul_right, mul_assoc, add-mul, one-mul, arith}
+use Rattle.std.proofs.Common.{◌≡◌, ℕ, ◌+◌, ◌-◌, ◌*◌, ◌<◌, ◌≤◌, sym, mul-le-mul_right, add-mul, one-mul, arith}
 use Rattle.tables.specs.Price.{row}
 
 -- a stretch of n lies whole below the next
@@ -15,11 +15,6 @@ number_below n a b i p q = let h = stretch_below n a b p in omega arith
 -- the rows are numbered through all levels
 pub row_number : (n k i : ℕ) → row n k i ≡ ((k - 1) * n + i) * n
 row_number n k i = sym (add-mul ((k - 1) * n) i n)
-
-pub row_inside : (n m k i : ℕ) → 1 ≤ k → k ≤ m → i < n → row n k i + n ≤ m * (n * n)
-row_inside n m k i a b c =
-    let h = stretch_below n ((k - 1) * n + i) (m * n) (number_below n (k - 1) m i (omega arith) c) in
-    omega (arith, h, row_number n k i, mul_assoc m n n)
 
 -- rows of one level lie in the order of their vertices
 pub row_after : (n k i v : ℕ) → i < v → row n k i + n ≤ row n k v

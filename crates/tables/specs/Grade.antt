@@ -1,8 +1,8 @@
 -- The grade table: for each link the first level that allows it. Assumes nothing.
-use Rattle.std.specs.Prelude.{◌≡◌, ℕ, ◌+◌, ◌*◌, ◌<◌, ◌≤◌, Bool, false, cond, ◌&&◌, T, List, length, Some, None, Option, nat_le, nat_lt, slice_index}
+use Rattle.std.specs.Prelude.{◌≡◌, ℕ, ◌+◌, ◌*◌, ◌<◌, ◌≤◌, Bool, false, cond, ◌&&◌, List, length, Some, None, Option, nat_le, nat_lt, slice_index}
 use Rattle.lines.specs.declared.level.Level.{Level}
 use Rattle.lines.specs.declared.vertex.Vertex.{Vertex}
-use Rattle.measures.specs.Measure.{Answer, allowed_by, grade, level_in}
+use Rattle.measures.specs.Measure.{Answer, allowed_by, grade, level_in, FirstAllowed}
 
 -- What the cell of i and j holds: the grade of the link i → j, and 0 where i is not below j.
 abbrev pub grade_cell : Answer → List Vertex → List Level → ℕ → ℕ → ℕ
@@ -35,8 +35,8 @@ by_grade cells n m k i j = reaches (first_level cells n m i j) k
 -- no such level or no such link.
 abbrev pub FirstLevel : (ℕ → ℕ → ℕ → Bool) → ℕ → ℕ → ℕ → ℕ → Option ℕ → Type 0
 FirstLevel allowed m n i j (Some k) =
-    (i < j) × (j < n) × (1 ≤ k) × (k ≤ m) × T (allowed k i j) × ((h : ℕ) → 1 ≤ h → h < k → T (allowed h i j) → ⊥)
-FirstLevel allowed m n i j None = i < j → j < n → (k : ℕ) → 1 ≤ k → k ≤ m → T (allowed k i j) → ⊥
+    (i < j) × (j < n) × FirstAllowed (λ h. allowed h i j) m (Some k)
+FirstLevel allowed m n i j None = i < j → j < n → FirstAllowed (λ h. allowed h i j) m None
 
 -- On cells that hold the grades of a measure, an answer is the first level that the measure allows the link at.
 abbrev pub TellsFirstLevel : List ℕ → ℕ → ℕ → ℕ → ℕ → Option ℕ → Type 0

@@ -1,11 +1,13 @@
 -- How the price table fills, row by row. Assumes nothing.
 use Rattle.std.specs.Prelude.{◌≡◌, ℕ, suc, ◌+◌, ◌-◌, ◌*◌, ◌<◌, ◌≤◌, min, Bool, cond, ◌⊎◌, List, length, nat_le, slice_index_or}
-use Rattle.families.specs.Price.{Kind, cheaper}
+use Rattle.families.specs.Price.{Kind}
 use Rattle.families.specs.Least.{L, cheapest}
 use Rattle.prices.specs.Price.{LinkPrice}
 use Rattle.tables.specs.Terms.{costs, grants}
 use Rattle.tables.specs.Price.{row}
 use Rattle.tables.specs.declared.fill.Filling.{Filling}
+
+-- `room`, `IsLevel`, `OnlyRow` and `KeptOutside` stand in most contracts of rows.rt at a level, a vertex and cells of its call, and no field holds these.
 
 -- How many cells a filling writes: those of all levels.
 abbrev pub room : Filling → ℕ
@@ -20,10 +22,6 @@ module _ {P : Type 0} (K : Kind P) where
   -- The cells before `start` and those from `stop` on are as they were.
   abbrev pub KeptOutside : List P → List P → ℕ → ℕ → Type 0
   KeptOutside before after start stop = (y : ℕ) → (y < start) ⊎ (stop ≤ y) → slice_index_or after y K.neutral ≡ slice_index_or before y K.neutral
-
-  -- The cell at y after a candidate is taken in: its head joined with the cell at z, where that is cheaper.
-  abbrev pub taken : P → List P → ℕ → ℕ → P
-  taken head cells y z = cheaper K (slice_index_or cells y K.neutral) (K.join head (slice_index_or cells z K.neutral))
 
   -- The head of a candidate: the price of its first link i → v joined with what lies under the link at the next finer level.
   abbrev pub head : P → List P → ℕ → ℕ → ℕ → ℕ → P

@@ -66,6 +66,7 @@ impl<'a, M: Measure> Grading<'a, M> {
             return 0;
         }
         let first = self.measure.first_level(&self.line, self.levels, i, j);
+        // One more than there are levels stands for no level: the format of the cells that a caller reads.
         first.unwrap_or(self.levels.len() + 1) as u8
     }
 

@@ -1,14 +1,10 @@
 ghost use Rattle.std.specs.Prelude.{◌≡◌, ◌*◌, ◌<◌, length, slice_index_or, slice_set};
-ghost use Rattle.prices.specs.Price.{price_by};
-ghost use Rattle.tables.specs.Grade.{by_grade};
 ghost use Rattle.tables.specs.Price.{cell_place, price_at, price_put, ReadsBack, PriceRoom};
 ghost use Rattle.tables.specs.Row.{KeptOutside, TableHolds};
+ghost use Rattle.tables.specs.Terms.{costs, grants};
 
 use crate::fill::Filling;
-use crate::grade_table::GradeTable;
 use crate::terms::Terms;
-use lines::level::Level;
-use lines::line::Line;
 use prices::price::Price;
 
 // A table of prices over lent memory, for n vertices: cell (k - 1) * n * n + i * n + j belongs to level k from i to j.
@@ -67,26 +63,21 @@ impl<'a, P: Price> PriceTable<'a, P> {
         }
     }
 
-    // Fills the cells of all levels with the least totals between all vertices, by what the grades allow. Nothing is written where
+    // Fills the cells of all levels with the least totals between all vertices, by what the terms grant. Nothing is written where
     // n is above 256, where there are more than 8 levels, or where the memory is short.
-    pub fn fill(&mut self, line: &Line, levels: &[Level], grades: &GradeTable)
-        ensures filled { PriceRoom (length levels.now) self.old.n (length self.old.cells.now) → TableHolds P.kind (price_by P.link line.now.vertices.now levels.now) (by_grade grades.now.cells.now grades.now.n grades.now.m) self.new.cells.now self.old.n (length levels.now) }
-        ensures rest_kept { KeptOutside P.kind self.old.cells.now self.new.cells.now 0 (length levels.now * (self.old.n * self.old.n)) }
-        ensures short_kept { (PriceRoom (length levels.now) self.old.n (length self.old.cells.now) → ⊥) → self.new.cells.now ≡ self.old.cells.now }
+    pub fn fill(&mut self, terms: &Terms)
+        ensures filled { PriceRoom (length terms.now.levels.now) self.old.n (length self.old.cells.now) → TableHolds P.kind (costs P.link terms.now) (grants terms.now) self.new.cells.now self.old.n (length terms.now.levels.now) }
+        ensures rest_kept { KeptOutside P.kind self.old.cells.now self.new.cells.now 0 (length terms.now.levels.now * (self.old.n * self.old.n)) }
+        ensures short_kept { (PriceRoom (length terms.now.levels.now) self.old.n (length self.old.cells.now) → ⊥) → self.new.cells.now ≡ self.old.cells.now }
         ensures n { self.new.n ≡ self.old.n }
         ensures lender { self.new.cells.ghost_name ≡ self.old.cells.ghost_name }
     {
         let n = self.n;
-        let m = levels.len();
+        let m = terms.levels.len();
         if n > 256 || m > 8 || m * n * n > self.cells.len() {
             return;
         }
-        let terms = Terms {
-            line: *line,
-            levels,
-            grades: *grades,
-        };
-        let filling = Filling { terms, n };
+        let filling = Filling { terms: *terms, n };
         filling.fill_levels(self.cells);
     }
 }

@@ -8,17 +8,8 @@ ghost use Rattle.tables.specs.Row.{head, room, IsLevel, Filled, Begun, OnlyRow, 
 use crate::fill::Filling;
 use prices::price::Price;
 
-// The cells of a row become neutral. `fill` asks for a clone that cannot fail, which no clause says of a type parameter.
-fn clear<P: Price>(row: &mut [P])
-    ensures { (x : ℕ) → x < length row.old → slice_index_or row.new x P.kind.neutral ≡ P.kind.neutral }
-{
-    for cell in row.iter_mut() {
-        *cell = P::neutral();
-    }
-}
-
 // Each cell of a row becomes what `change` makes of it and of the cell at its place in another row, if it makes anything.
-// `zip` in place of the index did not prove: behind an adapter of `iter_mut` nothing is known of what was written.
+// Tried with `zip`: its loop knows what each `&mut` held when it was given out, and nothing ties the row at the end to what was written.
 fn update<P: Price, F: Fn(P, P) -> Option<P>>(row: &mut [P], other: &[P], change: F)
     requires callable { F.IsAlwaysCallable change }
     requires room { length row.old ≤ length other.now }
@@ -31,7 +22,9 @@ fn update<P: Price, F: Fn(P, P) -> Option<P>>(row: &mut [P], other: &[P], change
     }
 }
 
-impl<'a> Filling<'a> {
+// A filling holds no cells: each method that writes them would then say beside its own clauses that terms, n and the lender stay.
+// Level and vertex are no struct and no fields: they change from call to call, and their bounds are one word each.
+impl<'a, 'b> Filling<'a, 'b> {
     // Where the row of level k from vertex i begins.
     fn start(&self, k: usize, i: usize) -> usize
         requires { (IsLevel self.now k) × (i < self.now.n) }
@@ -50,7 +43,8 @@ impl<'a> Filling<'a> {
         ensures outside { OnlyRow P.kind self.now cells.old cells.new k i }
     {
         let own = self.start(k, i);
-        clear(&mut cells[own..own + i + 1]);
+        let none = P::neutral();
+        cells[own..own + i + 1].fill_with(|| none);
     }
 
     // The cells of level k from vertex i, from vertex v on, become what `change` makes of them and of those from v.

@@ -6,15 +6,15 @@ use lines::level::Level;
 use lines::line::Line;
 use prices::price::Price;
 
-// The terms of a search: a line, its levels, and the grades of its links.
+// The terms of a search: a line, its levels, and the grades of its links, which are lent on their own.
 #[derive(Clone, Copy)]
-pub struct Terms<'a> {
+pub struct Terms<'a, 'b> {
     pub line: Line<'a>,
     pub levels: &'a [Level],
-    pub grades: GradeTable<'a>,
+    pub grades: GradeTable<'b>,
 }
 
-impl<'a> Terms<'a> {
+impl<'a, 'b> Terms<'a, 'b> {
     // Whether level k allows the link i → v.
     pub fn grants(&self, k: usize, i: usize, v: usize) -> bool
         ensures { result ≡ grants self.now k i v }

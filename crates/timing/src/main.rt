@@ -22,10 +22,8 @@ use walk::draw_lines;
 
 // The number in an argument.
 fn number(text: Option<String>) -> anyhow::Result<usize> {
-    match text {
-        Some(text) => Ok(text.parse::<usize>()?),
-        None => Err(anyhow!("usage: timing LINES VERTICES LEVELS [time]")),
-    }
+    let text = text.ok_or_else(|| anyhow!("usage: timing LINES VERTICES LEVELS [time]"))?;
+    Ok(text.parse::<usize>()?)
 }
 
 // Eight levels of weight 1 whose tolerances rise by a factor.

@@ -9,7 +9,7 @@ use std::io;
 use std::time::Instant;
 use tables::grade_table::grade_links;
 
-// How many lines, vertices and levels, and whether times are shown.
+// How many lines, vertices and levels, and whether times are shown: a flag, since no value goes with it.
 #[derive(Clone, Copy)]
 pub struct Task {
     pub lines: usize,
@@ -22,7 +22,7 @@ impl Task {
     pub fn new(lines: usize, vertices: usize, levels: usize, shown: bool) -> Task {
         Task {
             lines,
-            vertices: vertices.min(256).max(2),
+            vertices: vertices.clamp(2, 256),
             levels: levels.min(8),
             shown,
         }

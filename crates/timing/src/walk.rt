@@ -8,12 +8,14 @@ struct Draws {
     state: u64,
 }
 
-impl Draws {
+impl From<u64> for Draws {
     fn from(start: u64) -> Draws {
         Draws { state: start }
     }
+}
 
-    // The next number, 0 to 127.
+impl Draws {
+    // The next number, 0 to 127. No `Iterator`: the draws never end, and it would owe how many are left.
     fn next(&mut self) -> u8 {
         self.state = self
             .state
@@ -33,8 +35,7 @@ fn walk(draws: &mut Draws, vertices: &mut [Vertex]) {
         y = y
             .saturating_add(i16::from(draws.next()))
             .saturating_sub(63)
-            .max(-16384)
-            .min(16383);
+            .clamp(-16384, 16383);
     }
 }
 

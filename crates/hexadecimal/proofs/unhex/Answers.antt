@@ -1,7 +1,7 @@
-use Rattle.std.proofs.Common.{◌≡◌, ◌<◌, ◌%◌, length, Some, None, sym, ap, ◌∙◌, vec_items, arith, rules}
+use Rattle.std.proofs.Common.{◌≡◌, ◌<◌, length, Some, None, sym, ap, ◌∙◌, vec_items, arith}
 use Rattle.std.specs.Slice.Iter.{chunks_exact_rest}
 use Rattle.hexadecimal.specs.Hex.{unhexed}
-use Rattle.hexadecimal.proofs.Pairs.{behind, from_start, odd_none, no_byte, one_byte, still_even, all_read}
+use Rattle.hexadecimal.proofs.Pairs.{behind, odd_none, no_byte, one_byte, still_even, all_read}
 use Rattle.hexadecimal.proofs.Written.{reads}
 use Rattle.hexadecimal.proofs.unhex.Goals as goal
 
@@ -11,24 +11,13 @@ returns-then-text-ne0-clause-answer c = odd_none c.args.text.now c.if-text-ne0.t
 pub returns-then-text-ne0-clause-reads_exactly_what_is_written : goal.returns-then-text-ne0-clause-reads_exactly_what_is_written
 returns-then-text-ne0-clause-reads_exactly_what_is_written c = reads c.args.text.now None (returns-then-text-ne0-clause-answer c)
 
-pub loop-pair-init : goal.loop-pair-init
-loop-pair-init c =
-    let all : chunks_exact_rest c.into_iter-pair-iterator.result ≡ c.args.text.now = search rules in
-    record {
-      size = search rules;
-      even = ap (λ r. length r % 2) all ∙ c.if-text-ne0.false;
-      read = from_start (vec_items c.new-bytes.result) _ c.new-bytes.ensures.items ∙ ap unhexed all;
-    }
-
-pub returns-in_default-clause-answer : goal.returns-in_default-clause-answer
-returns-in_default-clause-answer c =
+pub returns-in_default-clause-reads_exactly_what_is_written : goal.returns-in_default-clause-reads_exactly_what_is_written
+returns-in_default-clause-reads_exactly_what_is_written c =
     let step = c.in-Some.ensures.steps in
     let before = vec_items c.loop-pair.bytes in
-    sym (no_byte before c.in-Some.pair.now (chunks_exact_rest c.next.new.self) (step.1.1 ∙ c.loop-pair.invariant.size) (sym c.byte.ensures ∙ c.in_default.is)) ∙
-    ap (λ r. behind before (unhexed r)) (sym step.1.0) ∙ c.loop-pair.invariant.read
-
-pub returns-in_default-clause-reads_exactly_what_is_written : goal.returns-in_default-clause-reads_exactly_what_is_written
-returns-in_default-clause-reads_exactly_what_is_written c = reads c.args.text.now None (returns-in_default-clause-answer c)
+    reads c.args.text.now None
+    (sym (no_byte before c.in-Some.pair.now (chunks_exact_rest c.next.new.self) (step.1.1 ∙ c.loop-pair.invariant.size) (sym c.byte.ensures ∙ c.in_default.is)) ∙
+    ap (λ r. behind before (unhexed r)) (sym step.1.0) ∙ c.loop-pair.invariant.read)
 
 pub loop-pair-preserved : goal.loop-pair-preserved
 loop-pair-preserved c =
@@ -45,10 +34,8 @@ loop-pair-preserved c =
           ap (λ r. behind before (unhexed r)) (sym step.1.0) ∙ c.loop-pair.invariant.read;
     }
 
-pub returns-clause-answer : goal.returns-clause-answer
-returns-clause-answer c =
-    let short : length (chunks_exact_rest c.loop-pair.pair-iterator) < 2 = omega (arith, c.in-None.ensures.steps.1.0, c.loop-pair.invariant.size) in
-    sym (all_read (vec_items c.loop-pair.bytes) _ short c.loop-pair.invariant.even) ∙ c.loop-pair.invariant.read
-
 pub returns-clause-reads_exactly_what_is_written : goal.returns-clause-reads_exactly_what_is_written
-returns-clause-reads_exactly_what_is_written c = reads c.args.text.now (Some (vec_items c.loop-pair.bytes)) (returns-clause-answer c)
+returns-clause-reads_exactly_what_is_written c =
+    let bytes = vec_items c.loop-pair.bytes in
+    let short : length (chunks_exact_rest c.loop-pair.pair-iterator) < 2 = omega (arith, c.in-None.ensures.steps.1.0, c.loop-pair.invariant.size) in
+    reads c.args.text.now (Some bytes) (sym (all_read bytes _ short c.loop-pair.invariant.even) ∙ c.loop-pair.invariant.read)

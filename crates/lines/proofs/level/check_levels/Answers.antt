@@ -2,7 +2,7 @@ use Rattle.std.proofs.Common.{◌≡◌, ◌+◌, false, ◌&&◌, leb, get_or, 
 use Rattle.std.proofs.lemmas.List.{at_drop_all}
 use Rattle.std.proofs.lemmas.Bool.Decides.{nat_tests}
 use Rattle.lines.specs.Level.{level, judged_from}
-use Rattle.lines.proofs.Levels.{lawful_from, bad_tolerance, bad_weight, good_level}
+use Rattle.lines.proofs.Levels.{lawful_from, bad_tolerance, bad_weight}
 use Rattle.lines.proofs.level.check_levels.Goals as goal
 use Rattle.lines.proofs.level.check_levels.Goals.{then-l-least-via-then-l-least, then-l-least-via-else-l-least+then-l-largest, then-l-lt1-via-then-l-lt1, then-l-lt1-via-else-l-lt1+then-l-gt1000}
 
@@ -23,11 +23,6 @@ returns-then-l-lt1 c =
     elim c.then-l-lt1.branch [ then-l-lt1-via-then-l-lt1 w ↦ grind (arith, nat_tests) | then-l-lt1-via-else-l-lt1+then-l-gt1000 w ↦ grind (arith, nat_tests) ] in
     let e = ap Err c.new-then-l-lt1.ensures ∙ sym (bad_weight c.args.largest c.args.layer c.loop-i.least c.loop-i.i ls c.loop-i-test.true (grind (arith, nat_tests)) b) ∙ c.loop-i.invariant.0 in
     record { answer = e; lawful = lawful_from c.args.largest c.args.layer ls _ e }
-
-pub loop-i-preserved : goal.loop-i-preserved
-loop-i-preserved c =
-    let ls = c.args.levels.now in
-    (sym (good_level c.args.largest c.args.layer c.loop-i.least c.loop-i.i ls c.loop-i-test.true (grind (arith, nat_tests)) (grind (arith, nat_tests))) ∙ c.loop-i.invariant.0, omega arith)
 
 pub returns : goal.returns
 returns c =

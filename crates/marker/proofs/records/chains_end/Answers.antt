@@ -1,17 +1,14 @@
 use Rattle.std.proofs.Common.{Err, sym, ap, ◌∙◌, arith}
-use Rattle.std.proofs.lemmas.Result.{err_from_is_err_and, IfOk-from_err}
+use Rattle.std.proofs.lemmas.Result.{err_from_is_err_and}
 use Rattle.marker.proofs.Walking.{end_further, end_refused}
 use Rattle.marker.proofs.records.chains_end.Goals as goal
 
-pub returns-in_err-size : goal.returns-in_err-size
-returns-in_err-size c =
+pub returns-in_err-size-clause-answer : goal.returns-in_err-size-clause-answer
+returns-in_err-size-clause-answer c =
     let p = err_from_is_err_and c.from_residual.result c.from_residual.ensures.1 in
-    record {
-      answer = p.1 ∙ ap Err p.2
-          ∙ sym (end_refused c.args.n c.args.m c.loop-k._k c.loop-k.at c.in_err-size.field-0.0 c.args.records.now (omega arith) (sym c.in_err-size.ensures.answer))
-          ∙ c.loop-k.invariant.0;
-      within = IfOk-from_err c.from_residual.result _ c.from_residual.ensures.0;
-    }
+    p.1 ∙ ap Err p.2
+    ∙ sym (end_refused c.args.n c.args.m c.loop-k._k c.loop-k.at c.in_err-size.field-0.0 c.args.records.now (omega arith) (sym c.in_err-size.ensures.answer))
+    ∙ c.loop-k.invariant.0
 
 pub loop-k-preserved : goal.loop-k-preserved
 loop-k-preserved c = (

@@ -6,8 +6,8 @@ use Rattle.layers.proofs.reach.ReachMeasure.first_level.Goals.{else-ahead-gt1-vi
 pub returns-then-ahead-self : goal.returns-then-ahead-self
 returns-then-ahead-self g c = search (rules, first_far)
 
-pub returns : goal.returns
-returns g c =
+pub returns-clause-answer : goal.returns-clause-answer
+returns-clause-answer g c =
     let near : (c.args.j - c.args.i ≤ 1) ⊎ (c.args.j - c.args.i ≤ c.args.self.now.reach) =
     elim c.else-ahead-gt1.branch [ else-ahead-gt1-via-then-ahead-gt1+else-ahead-self w ↦ inr (omega arith) | else-ahead-gt1-via-else-ahead-gt1 w ↦ inl (omega arith) ] in
     let rules = g.met.M.Measure.rules c.args.self.now.below in

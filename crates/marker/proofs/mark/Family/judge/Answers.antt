@@ -1,22 +1,44 @@
-use Rattle.std.proofs.Common.{ℕ, ◌+◌, Bool, length, Err, ap, ◌∙◌, ap₂, inl, inr, ⊎_elim}
+use Rattle.std.proofs.Common.{ℕ, ◌+◌, Bool, length, Err, ap, ◌∙◌, ap₂, inl, inr, ⊎_elim, rules}
 use Rattle.std.proofs.lemmas.Result.{err_from_is_err_and}
+use Rattle.lines.specs.declared.fault.Cause.TheVariants.{Nesting, Link, Order}
 use Rattle.marker.specs.Chain.{numbers_of}
-use Rattle.marker.specs.Judge.{judged_chain}
-use Rattle.marker.proofs.Stepping.{resumed_refused, resumed_done}
+use Rattle.marker.specs.Judge.{disorder, missing, none_or}
+use Rattle.marker.proofs.Stepping.{nesting_refused, link_refused, passed, resumed_done}
 use Rattle.marker.proofs.mark.Family.judge.Goals as goal
 
-pub returns-in_err-judge_chain : goal.returns-in_err-judge_chain
-returns-in_err-judge_chain g c =
-    let p = err_from_is_err_and c.from_residual.result c.from_residual.ensures.1 in
+pub returns-in_err-none_or-2 : goal.returns-in_err-none_or-2
+returns-in_err-none_or-2 g c =
+    let p = err_from_is_err_and c.from_residual-in_err-none_or-2.result c.from_residual-in_err-none_or-2.ensures.1 in
     let vs = c.args.self.now.line.vertices.now in
-    let n = length vs in
     let allowed : ℕ → ℕ → ℕ → Bool = λ t i j. g.M.Measure.says c.args.measure.now vs i j t in
     let chain = c.in-Some.chain in
-    let level = c.in-Some.level.now in
     let s = c.in-Some.ensures.steps in
-    let k = c.loop-i.i-iterator.count in
-    let e = c.in_err-judge_chain.ensures ∙ ap₂ (λ x i. judged_chain (allowed level.tolerance) n (i + 1) (numbers_of x) (numbers_of chain)) c.unwrap_or.ensures s.1 in
-    p.1 ∙ ap Err p.2 ∙ resumed_refused allowed n k c.loop-i.finer chain level _ _ _ _ c.in_err-judge_chain.field-0.0 s.0.0 s.0.1 e ∙ c.loop-i.invariant.2
+    let order = c.in_ok-none_or.ensures ∙ ap₂ (λ o i. none_or o Order (i + 1)) (c.first_disorder.ensures ∙ ap (λ m. disorder m (numbers_of chain)) c.count.ensures) s.1 in
+    let e = c.in_err-none_or-2.ensures ∙ ap₂ (λ o i. none_or o Nesting (i + 1)) (c.first_missing.ensures ∙ ap (λ f. missing (numbers_of f) (numbers_of chain)) c.unwrap_or.ensures) s.1 in
+    p.1 ∙ ap Err p.2 ∙ nesting_refused allowed (length vs) c.loop-i.i-iterator.count c.loop-i.finer chain c.in-Some.level.now _ _ _ _ s.0.0 s.0.1 order _ e ∙ c.loop-i.invariant.2
+
+pub returns-in_err-none_or-3 : goal.returns-in_err-none_or-3
+returns-in_err-none_or-3 g c =
+    let p = err_from_is_err_and c.from_residual-in_err-none_or-3.result c.from_residual-in_err-none_or-3.ensures.1 in
+    let vs = c.args.self.now.line.vertices.now in
+    let allowed : ℕ → ℕ → ℕ → Bool = λ t i j. g.M.Measure.says c.args.measure.now vs i j t in
+    let chain = c.in-Some.chain in
+    let s = c.in-Some.ensures.steps in
+    let order = c.in_ok-none_or.ensures ∙ ap₂ (λ o i. none_or o Order (i + 1)) (c.first_disorder.ensures ∙ ap (λ m. disorder m (numbers_of chain)) c.count.ensures) s.1 in
+    let nesting = c.in_ok-none_or-2.ensures ∙ ap₂ (λ o i. none_or o Nesting (i + 1)) (c.first_missing.ensures ∙ ap (λ f. missing (numbers_of f) (numbers_of chain)) c.unwrap_or.ensures) s.1 in
+    let e = c.in_err-none_or-3.ensures ∙ ap₂ (λ o i. none_or o Link (i + 1)) c.first_forbidden.ensures s.1 in
+    p.1 ∙ ap Err p.2 ∙ link_refused allowed (length vs) c.loop-i.i-iterator.count c.loop-i.finer chain c.in-Some.level.now _ _ _ _ s.0.0 s.0.1 order nesting _ e ∙ c.loop-i.invariant.2
+
+pub loop-i-preserved : goal.loop-i-preserved
+loop-i-preserved g c =
+    let vs = c.args.self.now.line.vertices.now in
+    let allowed : ℕ → ℕ → ℕ → Bool = λ t i j. g.M.Measure.says c.args.measure.now vs i j t in
+    let chain = c.in-Some.chain in
+    let s = c.in-Some.ensures.steps in
+    let order = c.in_ok-none_or.ensures ∙ ap₂ (λ o i. none_or o Order (i + 1)) (c.first_disorder.ensures ∙ ap (λ m. disorder m (numbers_of chain)) c.count.ensures) s.1 in
+    let nesting = c.in_ok-none_or-2.ensures ∙ ap₂ (λ o i. none_or o Nesting (i + 1)) (c.first_missing.ensures ∙ ap (λ f. missing (numbers_of f) (numbers_of chain)) c.unwrap_or.ensures) s.1 in
+    let e = c.in_ok-none_or-3.ensures ∙ ap₂ (λ o i. none_or o Link (i + 1)) c.first_forbidden.ensures s.1 in
+    (search rules, search rules, passed allowed (length vs) c.loop-i.i-iterator.count c.loop-i.finer chain c.in-Some.level.now _ _ _ _ s.0.0 s.0.1 order nesting _ s.2 e ∙ c.loop-i.invariant.2)
 
 pub returns : goal.returns
 returns g c =

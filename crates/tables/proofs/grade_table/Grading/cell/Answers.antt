@@ -1,9 +1,8 @@
-use Rattle.std.proofs.Common.{ℕ, ◌≡◌, ◌+◌, true, ltb, length, ap, sym, ◌∙◌, arith}
+use Rattle.std.proofs.Common.{◌≡◌, ◌+◌, true, ltb, length, ap, sym, ◌∙◌, arith}
 use Rattle.std.specs.Option.{unwrap_or}
 use Rattle.std.proofs.lemmas.Bool.{cond-true}
 use Rattle.std.proofs.lemmas.Bool.Decides.{nat_tests}
-use Rattle.families.proofs.Next.{first_range}
-use Rattle.measures.specs.Measure.{allowed_by, grade}
+use Rattle.measures.specs.Measure.{grade}
 use Rattle.measures.proofs.Grades.{grade_back}
 use Rattle.tables.proofs.grade_table.Grading.cell.Given.{Over}
 use Rattle.tables.proofs.grade_table.Grading.cell.Goals as goal
@@ -13,15 +12,8 @@ number : (g : Over) (c : goal.After-unwrap_or g) →
     c.unwrap_or.result ≡ grade (g.M.Measure.says c.args.self.now.measure.now) c.args.self.now.line.vertices.now c.args.self.now.levels.now c.args.i c.args.j
 number g c =
     let s = c.args.self.now in
-    c.unwrap_or.ensures ∙ ap (λ o. unwrap_or o (length s.levels.now + 1)) c.first_level-first.ensures ∙
+    c.unwrap_or.ensures ∙ ap (λ o. unwrap_or o (length s.levels.now + 1)) c.first_level-first.ensures.answer ∙
     grade_back (g.M.Measure.says s.measure.now s.line.vertices.now c.args.i c.args.j) s.levels.now
-
-pub overflow_cast-result : goal.overflow_cast-result
-overflow_cast-result g c =
-    let s = c.args.self.now in
-    let says = g.M.Measure.says s.measure.now in
-    let r = first_range (λ (k : ℕ). allowed_by says s.line.vertices.now s.levels.now k c.args.i c.args.j) 1 (length s.levels.now) in
-    omega (arith, r.1, number g c)
 
 pub returns : goal.returns
 returns g c = let link : ltb c.args.i c.args.j ≡ true = grind (arith, nat_tests) in number g c ∙ sym (cond-true _ _ 0 link)
