@@ -23,7 +23,7 @@ clauses() {
     grep -hoE '(requires|ensures)( [a-z_]+)? \{.*\}' $code | sed -E 's/^[^{]*//' | sort | uniq -c | sort -rn | awk '$1 >= 3'
 }
 
-say '1 a number for none' grep -nE 'levels\.len\(\) \+ 1[,;]?$|^ +_ => 16,' $code
+say '1 a number for none' grep -nE 'levels\.len\(\) \+ 1([,;]?$|\))|^ +_ => 16,' $code
 say '1 numbers of kinds by hand' grep -nE 'fn (numbered|kind|number)\((self|number: u8)\)' $code
 say '1 a number where nothing is answered' grep -nE '^pub fn .*\(\) -> u8$' $code
 say '1 flags' grep -nE '^ +(pub )?[a-z_]+: bool,' $code
