@@ -1,18 +1,24 @@
 // Reads a family pack from standard input and prints its verdict; a refusal ends with status 1.
 #![tactic(auto)]
 
-use anyhow::anyhow;
 use marker::pack::mark_pack;
 use marker::verdict::Verdict;
+use std::io;
 use std::io::Read;
+use std::process::ExitCode;
 
-fn main(rt: HostRuntime) -> anyhow::Result<()> {
+// Marks standard input, and answers whether it holds a family.
+fn mark(rt: &HostRuntime) -> io::Result<bool> {
     let mut bytes = Vec::new(rt.alloc());
     rt.stdin().read_to_end(&mut bytes)?;
     let verdict = mark_pack(bytes.as_slice());
     println!(rt; "{}", Verdict(verdict))?;
-    match verdict {
-        Ok(_) => Ok(()),
-        Err(_) => Err(anyhow!("refused")),
+    Ok(verdict.is_ok())
+}
+
+fn main(rt: HostRuntime) -> ExitCode {
+    match mark(&rt) {
+        Ok(true) => ExitCode::SUCCESS,
+        Ok(false) | Err(_) => ExitCode::FAILURE,
     }
 }
