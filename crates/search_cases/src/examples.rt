@@ -32,7 +32,7 @@ fn seven_finds<M: Measure>(
     let mut line = Line::built_in();
     line.make(&vertices)?;
     let levels = [level(1, 1), level(2, weight)];
-    let mut prices = [Count { count: 77 }; 128];
+    let mut prices = [Count { count: 0 }; 128];
     finds(rt, measure, &line, &levels, (total, 0), stays, &mut prices)
 }
 
@@ -100,7 +100,7 @@ fn a_tie_goes_to_the_smaller_vertex(rt: HostRuntime) -> Result<(), Fail> {
     let mut line = Line::built_in();
     line.make(&vertices)?;
     let levels = [level(1, 1)];
-    let mut counts = [Count { count: 77 }; 128];
+    let mut counts = [Count { count: 0 }; 128];
     finds(
         &rt,
         &four()?,
@@ -110,7 +110,7 @@ fn a_tie_goes_to_the_smaller_vertex(rt: HostRuntime) -> Result<(), Fail> {
         &[1, 1, 0, 1],
         &mut counts,
     )?;
-    let mut pairs = [CountThenArea { count: 77, area: 7 }; 128];
+    let mut pairs = [CountThenArea { count: 0, area: 0 }; 128];
     finds(
         &rt,
         &four()?,
@@ -120,4 +120,34 @@ fn a_tie_goes_to_the_smaller_vertex(rt: HostRuntime) -> Result<(), Fail> {
         &[1, 0, 1, 1],
         &mut pairs,
     )
+}
+
+// On four vertices at one point, where no link has an area, both prices find this count and these stays under two levels.
+fn both_find(rt: &impl Abort, approvals: &Approvals, count: u32, stays: &[u8]) -> Result<(), Fail> {
+    let vertices = [at(0, 0); 4];
+    let mut line = Line::built_in();
+    line.make(&vertices)?;
+    let levels = [level(1, 1), level(2, 1)];
+    let form = (count, 0);
+    let mut counts = [Count { count: 0 }; 128];
+    finds(rt, approvals, &line, &levels, form, stays, &mut counts)?;
+    let mut pairs = [CountThenArea { count: 0, area: 0 }; 128];
+    finds(rt, approvals, &line, &levels, form, stays, &mut pairs)
+}
+
+// Level 1 has all vertices. Over it 0 1 3 and 0 2 3 cost the same at level 2, and 0 1 3 is taken.
+#[test]
+fn a_tie_on_a_coarse_level(rt: HostRuntime) -> Result<(), Fail> {
+    let mut approvals = Approvals::new();
+    approvals.approve(0, 2, 2)?;
+    approvals.approve(1, 3, 2)?;
+    both_find(&rt, &approvals, 5, &[2, 2, 1, 2])
+}
+
+// Level 2 is 0 3. Under that link 0 1 3 and 0 2 3 cost the same at level 1, and 0 1 3 is taken.
+#[test]
+fn a_tie_below_a_coarse_link(rt: HostRuntime) -> Result<(), Fail> {
+    let mut approvals = four()?;
+    approvals.approve(0, 3, 2)?;
+    both_find(&rt, &approvals, 3, &[2, 1, 0, 2])
 }

@@ -1,5 +1,5 @@
 // All families of small lines, listed one by one: the search answers the cheapest total of all.
-use crate::memory::{at, level, search};
+use crate::memory::{Noise, at, level, search};
 use layers::pins::Pins;
 use lines::fault::Fault;
 use lines::level::Level;
@@ -74,14 +74,15 @@ fn agree<M: Measure, P: Price>(
     levels: &[Level; 2],
     prices: &mut [P],
 ) -> Result<(), Fail> {
-    let found = search::<M, P>(measure, line, levels, 5, prices);
-    match (found.total, cheapest::<M, P>(measure, line, levels)) {
-        (Ok(total), Some(least)) => {
-            assert_eq!(rt; total.form(), least.form());
-            Ok(())
-        },
-        _ => Err(Fail::new("no total")),
+    let Some(least) = cheapest::<M, P>(measure, line, levels) else {
+        return Err(Fail::new("no family"));
+    };
+    for weight in [0, u32::MAX] {
+        let noise = Noise { byte: 5, weight };
+        let found = search::<M, P>(measure, line, levels, noise, prices);
+        assert_eq!(rt; found.total?.form(), least.form());
     }
+    Ok(())
 }
 
 // Six vertices drawn from a start.
