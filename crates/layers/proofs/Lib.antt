@@ -1,3 +1,4 @@
 pub mod Listing
 pub mod Pinning
 pub mod Grading
+pub mod Pinned

@@ -2,3 +2,4 @@ pub mod Pins
 pub mod LayerAfter
 pub mod Reach
 pub mod Layered
+pub mod Theorems

@@ -5,3 +5,4 @@ pub mod pins;
 pub mod reach;
 #[cfg(test)]
 mod tests;
+pub mod theorems;
