@@ -3,4 +3,6 @@
 
 pub mod drawing;
 pub mod pack;
+#[cfg(test)]
+mod tests;
 pub mod text;
