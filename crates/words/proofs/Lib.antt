@@ -1,0 +1,2 @@
+pub mod LineTrips
+pub mod WordTrips

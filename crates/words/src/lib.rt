@@ -1,0 +1,48 @@
+// The lines of a text, the words of a line, and the whole number that a word writes.
+#![tactic(auto)]
+
+ghost use Rattle.std.specs.Prelude.{◌≡◌, map, vec_items, IfOk};
+ghost use Rattle.words.specs.Lines.{lines_of, ReadsLines};
+ghost use Rattle.words.specs.Numbers.{number_of, ReadsNumber};
+ghost use Rattle.words.specs.Words.{is_blank, words_of, ReadsWords};
+
+
+use std::alloc::{AllocError, Global};
+
+// The lines of a text: what stands between line feeds. What follows the last line feed is a line only if it is not empty.
+pub fn lines(heap: Global, text: &[u8]) -> Result<Vec<&[u8]>, AllocError>
+    ensures answer { IfOk result (λ v. map (λ l. l.now) v.items ≡ lines_of text.now) }
+    ensures reads_exactly_what_is_written { IfOk result (λ v. ReadsLines text.now (map (λ l. l.now) v.items)) }
+{
+    let mut lines: Vec<&[u8]> = text.split(|c| *c == b'\n').collect(heap)?;
+    lines.pop_if(|line| line.is_empty());
+    Ok(lines)
+}
+
+// Whether a byte is a blank: a space, a tab or a carriage return.
+fn blank(c: u8) -> bool
+    ensures { result ≡ is_blank c }
+{
+    c == b' ' || c == b'\t' || c == b'\r'
+}
+
+// The words of a line: the longest stretches without a blank.
+pub fn words(heap: Global, line: &[u8]) -> Result<Vec<&[u8]>, AllocError>
+    ensures answer { IfOk result (λ v. map (λ w. w.now) v.items ≡ words_of line.now) }
+    ensures reads_exactly_what_is_written { IfOk result (λ v. ReadsWords line.now (map (λ w. w.now) v.items)) }
+{
+    line.split(|c| blank(*c))
+        .filter(|part| !part.is_empty())
+        .collect(heap)
+}
+
+// The whole number that a word writes in decimal digits, without a sign, up to the largest u32; none for any other word.
+pub fn whole_number(word: &[u8]) -> Option<u32>
+    ensures answer { result ≡ number_of word.now }
+    ensures reads_exactly_what_is_written { ReadsNumber word.now result }
+{
+    if !word.iter().all(|c| c.is_ascii_digit()) {
+        return None;
+    }
+    str::from_utf8(word).ok()?.parse().ok()
+}
