@@ -1,2 +1,3 @@
 pub mod LineTrips
+pub mod NumberTrips
 pub mod WordTrips
