@@ -120,6 +120,13 @@ written word n h e =
     let some : 0 < length (without_zeros word) = subst (λ ds. 0 < length ds) (sym e) (decimal_nonempty n small) in
     some_number word digits (nonempty word some) (omega arith) ∙ ap Some v
 
+-- a number in digits is read as that number
+pub decimal_read : (n : ℕ) → n ≤ 4294967295 → number_of (decimal n) ≡ Some n
+decimal_read n h =
+    let small : n < 2 ^ 64 = omega arith in
+    let v = digits_value-decimal own n small in
+    some_number (decimal n) (digits_decimal own n small) (decimal_nonempty n small) (omega (arith, v)) ∙ ap Some v
+
 -- what equals the number of a word is exactly what the word writes
 pub reads : (word : List ℕ) (o : Option ℕ) → o ≡ number_of word → ReadsNumber word o
 reads word o e n = (λ f. read word n (sym e ∙ f), λ w. e ∙ written word n w.0 w.1)

@@ -1,9 +1,9 @@
 -- The words of a line are exactly those that it writes. Assumes nothing.
 use Rattle.std.proofs.Common.{◌≡◌, ℕ, ◌<◌, Bool, cond, not, eqb, true, false, List, [], ◌∷◌, ◌++◌, length, filter, sym, refl, ap, ◌∙◌, subst, arith}
-use Rattle.std.specs.List.{AllByRecursion, All, onto_first, slice_split}
+use Rattle.std.specs.List.{AllByRecursion, All, onto_first, slice_split, join_with_byte}
 use Rattle.std.proofs.lemmas.Bool.Decides.{nat_tests}
 use Rattle.std.proofs.lemmas.List.Elements.{All-from_recursion}
-use Rattle.std.proofs.lemmas.List.Splits.{slice_split_at, slice_split-cons_yes, slice_split-cons_no}
+use Rattle.std.proofs.lemmas.List.Splits.{slice_split_at, slice_split_none, slice_split-cons_yes, slice_split-cons_no}
 use Rattle.words.specs.Lines.{each_with}
 use Rattle.words.specs.Words.{is_blank, words_of, at_gap, spaced, IsWord, ReadsWords}
 
@@ -50,6 +50,12 @@ word_written word line h =
 pub words_written : (ws : List (List ℕ)) → AllByRecursion IsWord ws → words_of (each_with 32 ws) ≡ ws
 words_written [] h = refl
 words_written (word ∷ ws) h = word_written word (each_with 32 ws) h.0 ∙ ap (λ more. word ∷ more) (words_written ws h.1)
+
+-- words, with one space between two, are read as they are
+pub words_joined : (ws : List (List ℕ)) → AllByRecursion IsWord ws → words_of (join_with_byte 32 ws) ≡ ws
+words_joined [] h = refl
+words_joined (word ∷ []) h = ap kept (slice_split_none is_blank word (All-from_recursion _ word h.0.1)) ∙ kept_long word [] h.0.0
+words_joined (word ∷ next ∷ ws) h = word_written word (join_with_byte 32 (next ∷ ws)) h.0 ∙ ap (λ more. word ∷ more) (words_joined (next ∷ ws) h.1)
 
 -- the line with one space after each word is what its words write, and each of them is a word
 abbrev Written : List ℕ → List (List ℕ) → Type 0

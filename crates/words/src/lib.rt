@@ -1,11 +1,15 @@
 // The lines of a text, the words of a line, and the whole number that a word writes.
 #![tactic(auto)]
 
-ghost use Rattle.std.specs.Prelude.{◌≡◌, map, vec_items, IfOk};
-ghost use Rattle.words.specs.Lines.{lines_of, ReadsLines};
+ghost use Rattle.std.specs.Prelude.{◌≡◌, ℕ, ◌≤◌, List, map, Some, IfOk, decimal};
+ghost use Rattle.std.specs.List.{AllByRecursion, join_with_byte};
+ghost use Rattle.words.specs.Lines.{lines_of, each_with, IsLine, ReadsLines};
 ghost use Rattle.words.specs.Numbers.{number_of, ReadsNumber};
-ghost use Rattle.words.specs.Words.{is_blank, words_of, ReadsWords};
+ghost use Rattle.words.specs.Words.{is_blank, words_of, IsWord, ReadsWords};
 
+
+#[cfg(test)]
+mod tests;
 
 use std::alloc::{AllocError, Global};
 
@@ -13,6 +17,7 @@ use std::alloc::{AllocError, Global};
 pub fn lines(heap: Global, text: &[u8]) -> Result<Vec<&[u8]>, AllocError>
     ensures answer { IfOk result (λ v. map (λ l. l.now) v.items ≡ lines_of text.now) }
     ensures reads_exactly_what_is_written { IfOk result (λ v. ReadsLines text.now (map (λ l. l.now) v.items)) }
+    ensures gives_lines_back { IfOk result (λ v. (ls : List (List ℕ)) → AllByRecursion IsLine ls → text.now ≡ each_with 10 ls → map (λ l. l.now) v.items ≡ ls) }
 {
     let mut lines: Vec<&[u8]> = text.split(|c| *c == b'\n').collect(heap)?;
     lines.pop_if(|line| line.is_empty());
@@ -30,6 +35,7 @@ fn blank(c: u8) -> bool
 pub fn words(heap: Global, line: &[u8]) -> Result<Vec<&[u8]>, AllocError>
     ensures answer { IfOk result (λ v. map (λ w. w.now) v.items ≡ words_of line.now) }
     ensures reads_exactly_what_is_written { IfOk result (λ v. ReadsWords line.now (map (λ w. w.now) v.items)) }
+    ensures gives_words_back { IfOk result (λ v. (ws : List (List ℕ)) → AllByRecursion IsWord ws → line.now ≡ join_with_byte 32 ws → map (λ w. w.now) v.items ≡ ws) }
 {
     line.split(|c| blank(*c))
         .filter(|part| !part.is_empty())
@@ -40,6 +46,7 @@ pub fn words(heap: Global, line: &[u8]) -> Result<Vec<&[u8]>, AllocError>
 pub fn whole_number(word: &[u8]) -> Option<u32>
     ensures answer { result ≡ number_of word.now }
     ensures reads_exactly_what_is_written { ReadsNumber word.now result }
+    ensures gives_number_back { (n : ℕ) → n ≤ 4294967295 → word.now ≡ decimal n → result ≡ Some n }
 {
     if !word.iter().all(|c| c.is_ascii_digit()) {
         return None;

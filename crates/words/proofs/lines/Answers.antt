@@ -1,8 +1,9 @@
-use Rattle.std.proofs.Common.{rules, tests, ◌≡◌, map, eqb, Ok}
+use Rattle.std.proofs.Common.{rules, tests, ◌≡◌, map, ◌∙◌, ap, eqb, Ok}
 use Rattle.std.specs.List.{slice_split}
 use Rattle.std.proofs.lemmas.Iterator.Consumers.{map_from_collect}
 use Rattle.std.proofs.lemmas.Iterator.Splits.{YieldsList-from_slice_split}
-use Rattle.words.proofs.LineTrips.{reads, popped}
+use Rattle.words.specs.Lines.{lines_of}
+use Rattle.words.proofs.LineTrips.{reads, popped, lines_written}
 use Rattle.words.proofs.lines.Goals as goal
 
 pub returns-clause-answer : goal.returns-clause-answer
@@ -14,3 +15,6 @@ returns-clause-answer c =
 
 pub returns-clause-reads_exactly_what_is_written : goal.returns-clause-reads_exactly_what_is_written
 returns-clause-reads_exactly_what_is_written c = reads c.args.text.now _ (returns-clause-answer c)
+
+pub returns-clause-gives_lines_back : goal.returns-clause-gives_lines_back
+returns-clause-gives_lines_back c = λ ls h e. returns-clause-answer c ∙ ap lines_of e ∙ lines_written ls h
