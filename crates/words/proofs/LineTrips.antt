@@ -1,5 +1,5 @@
 -- The lines of a text are exactly those that it writes. Assumes nothing.
-use Rattle.std.proofs.Common.{◌≡◌, ℕ, ◌<◌, ◌↔◌, Bool, cond, eqb, true, false, List, [], ◌∷◌, ◌++◌, length, sym, refl, ap, ◌∙◌, subst, ⊎_elim, arith, map, ap₂, inl, inr, Option, Bor, MutBor}
+use Rattle.std.proofs.Common.{◌≡◌, ℕ, Bool, cond, eqb, true, false, List, [], ◌∷◌, ◌++◌, length, sym, refl, ap, ◌∙◌, subst, arith, map, ap₂, inl, inr, Option, Bor, MutBor}
 use denote.Param.Members.{Once}
 use Rattle.std.specs.Fn.{FnOnceReturnsAtMut}
 use Rattle.std.specs.List.Retain.{PopsIf}
@@ -64,8 +64,7 @@ text_written (c ∷ d ∷ text) = more c d text (lines_of (d ∷ text)) (text_wr
 -- what equals the lines of a text is exactly what the text writes
 pub reads : (text : List ℕ) (read : List (List ℕ)) → read ≡ lines_of text → ReadsLines text read
 reads text read e ls =
-    let w = text_written text in
-    (
+    let w = text_written text in (
       λ f. subst (Written text) (sym e ∙ f) w,
       λ v. e ∙ sym (lines_written (lines_of text) w.0) ∙ ap lines_of (sym w.1 ∙ v.1) ∙ lines_written ls v.0,
     )

@@ -1,6 +1,6 @@
 -- A word is read as exactly the number that it writes. Assumes nothing.
-use Rattle.std.proofs.Common.{◌≡◌, ℕ, ◌^◌, ◌<◌, ◌≤◌, ◌↔◌, Bool, cond, ◌&&◌, eqb, leb, ltb, true, false, List, [], ◌∷◌, length, get_or, Some, None, Ok, Err, Option, Result, sym, refl, ap, ◌∙◌, subst, arith, rules, Bor}
-use Rattle.std.specs.Prelude.{decimal, is_none}
+use Rattle.std.proofs.Common.{◌≡◌, ℕ, ◌^◌, ◌<◌, ◌≤◌, Bool, cond, ◌&&◌, eqb, leb, ltb, true, false, List, [], ◌∷◌, length, get_or, Some, None, Ok, Err, Option, Result, sym, refl, ap, ◌∙◌, subst, arith, rules, Bor}
+use Rattle.std.specs.Prelude.{decimal}
 use Rattle.std.specs.Char.{is_ascii_digit}
 use Rattle.std.specs.List.{list_all}
 use Rattle.std.specs.Result.{OkIff, MatchResult, result_ok}
@@ -10,7 +10,7 @@ use Rattle.std.proofs.lemmas.Bool.Decides.{nat_tests}
 use Rattle.std.proofs.lemmas.Fmt.{digits_decimal, digits_value-decimal, decimal_nonempty, decimal-digits_value, IsAscii-from_digits}
 use Rattle.std.proofs.lemmas.Str.{IsUtf8-from_ascii}
 use Rattle.std.proofs.lemmas.Str.Parse.{IsNumeralModel, numerals_by_fold, parse_digits, tells_all_ascii_digits}
-use Rattle.words.specs.Numbers.{value_behind, is_numeral, number_of, without_zeros, ReadsNumber}
+use Rattle.words.specs.Numbers.{value_behind, number_of, without_zeros, ReadsNumber}
 
 -- the value of a word and its digits, in the words of `parse`
 pub own : IsNumeralModel (λ ds. all_ascii_digits ds ≡ true) (value_behind 0)

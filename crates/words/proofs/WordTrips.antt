@@ -1,6 +1,6 @@
 -- The words of a line are exactly those that it writes. Assumes nothing.
 use Rattle.std.proofs.Common.{◌≡◌, ℕ, ◌<◌, Bool, cond, not, eqb, true, false, List, [], ◌∷◌, ◌++◌, length, filter, sym, refl, ap, ◌∙◌, subst, arith}
-use Rattle.std.specs.List.{AllByRecursion, All, onto_first, slice_split, join_with_byte}
+use Rattle.std.specs.List.{AllByRecursion, onto_first, slice_split, join_with_byte}
 use Rattle.std.proofs.lemmas.Bool.Decides.{nat_tests}
 use Rattle.std.proofs.lemmas.List.Elements.{All-from_recursion}
 use Rattle.std.proofs.lemmas.List.Splits.{slice_split_at, slice_split_none, slice_split-cons_yes, slice_split-cons_no}
@@ -91,8 +91,7 @@ line_written (c ∷ line) = more c line (line_written line) (is_blank c) refl (a
 -- what equals the words of a line is exactly what the line writes
 pub reads : (line : List ℕ) (read : List (List ℕ)) → read ≡ words_of line → ReadsWords line read
 reads line read e ws =
-    let w = line_written line in
-    (
+    let w = line_written line in (
       λ f. subst (Written line) (sym e ∙ f) w,
       λ v. e ∙ sym (words_written (words_of line) w.0) ∙ ap words_of (sym w.1 ∙ v.1) ∙ words_written ws v.0,
     )

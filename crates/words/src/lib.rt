@@ -7,7 +7,6 @@ ghost use Rattle.words.specs.Lines.{lines_of, each_with, IsLine, ReadsLines};
 ghost use Rattle.words.specs.Numbers.{number_of, ReadsNumber};
 ghost use Rattle.words.specs.Words.{is_blank, words_of, IsWord, ReadsWords};
 
-
 #[cfg(test)]
 mod tests;
 
