@@ -9,7 +9,7 @@ ghost use Rattle.layers.specs.Layered.{over_pins_rules};
 use arrayvec::ArrayVec;
 use lines::fault::{Cause, Fault, Layer};
 use lines::level::Level;
-use lines::line::Line;
+use lines::line::{Line, check_size};
 use measures::measure::Measure;
 
 // Pins over a measure, for lines of one number of vertices: no link may skip a pin. The pins stand in the order of pinning.
@@ -23,19 +23,25 @@ pub struct Pins<M> {
 }
 
 impl<M: Drop> Pins<M> {
-    // No pins yet, over the measure `below`, for lines of n vertices.
-    pub fn over(below: M, n: usize) -> Result<Pins<M>, Fault>
+    // No pins yet, over the measure `below`, for lines of n vertices, for the layer that asks.
+    pub fn over_in(below: M, n: usize, layer: Layer) -> Result<Pins<M>, Fault>
         ensures limits { Decides (is_ok result) ((2 ≤ n) × (n ≤ 256)) }
-        ensures answer { MatchResult result (λ p. (p.below ≡ below) × (p.count ≡ n) × (p.pins.items ≡ [])) (λ f. f ≡ fault Limits Content 0) }
+        ensures answer { MatchResult result (λ p. (p.below ≡ below) × (p.count ≡ n) × (p.pins.items ≡ [])) (λ f. f ≡ fault Limits layer 0) }
     {
-        if n < 2 || n > 256 {
-            return Err(Fault::new(Cause::Limits, Layer::Content, 0));
-        }
+        check_size(n, layer)?;
         Ok(Pins {
             below,
             count: n,
             pins: ArrayVec::new(),
         })
+    }
+
+    // No pins yet, over the measure `below`, for lines of n vertices. A call of its own beside `over_in`: who makes a layer names no layer.
+    pub fn over(below: M, n: usize) -> Result<Pins<M>, Fault>
+        ensures limits { Decides (is_ok result) ((2 ≤ n) × (n ≤ 256)) }
+        ensures answer { MatchResult result (λ p. (p.below ≡ below) × (p.count ≡ n) × (p.pins.items ≡ [])) (λ f. f ≡ fault Limits Content 0) }
+    {
+        Pins::over_in(below, n, Layer::Content)
     }
 }
 

@@ -6,13 +6,18 @@ use Rattle.lines.specs.declared.fault.Fault.{Fault}
 use Rattle.lines.specs.declared.fault.Cause.TheVariants.{Tolerance, Weight}
 use Rattle.lines.specs.declared.fault.Layer.{Layer}
 use Rattle.lines.specs.declared.level.Level.{Level}
-use Rattle.lines.specs.Fault.{fault}
+use Rattle.lines.specs.Fault.{fault, then}
 use Rattle.lines.specs.Level.{level, LawfulLevels, judged_from, judged_levels}
 
 -- a test passed, and what came after it was fine
 pub passed : {X : Type 0} (b : Bool) (r : Result X Fault) (e : Fault) → is_ok (cond b r (Err e)) ≡ true → (b ≡ true) × (is_ok r ≡ true)
 passed true r e h = (refl, h)
 passed false r e h = (h, cc)
+
+-- both parts of what is judged one after the other
+pub both_granted : {X : Type 0} (a : Result (Unit {0}) Fault) (b : Unit {0} → Result X Fault) → is_ok (then a b) ≡ true → (is_ok a ≡ true) × (is_ok (b tt) ≡ true)
+both_granted (Ok x) b h = (refl, h)
+both_granted (Err e) b h = (h, cc)
 
 sound : (largest : ℕ) (layer : Layer) (k least : ℕ) (ls : List Level) → is_ok (judged_from largest layer k least ls) ≡ true →
     (0 < length ls → least ≤ (get_or ls 0 (level 0 0)).tolerance) × LawfulLevels largest ls

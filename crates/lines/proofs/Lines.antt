@@ -1,5 +1,5 @@
 -- Judging vertices accepts exactly lawful lines, and names the lowest bad one. Assumes nothing.
-use Rattle.std.proofs.Common.{◌≡◌, ℕ, ◌+◌, true, ◌&&◌, leb, List, [], ◌∷◌, length, ℤ, pos, negsuc, ◌≤ℤ◌, is_ok, Ok, Decides, refl, ◌∙◌, arith}
+use Rattle.std.proofs.Common.{◌≡◌, ℕ, ◌+◌, true, ◌&&◌, leb, List, [], ◌∷◌, length, ℤ, pos, negsuc, ◌≤ℤ◌, is_ok, Ok, Decides, refl, ap, ◌∙◌, arith}
 use lib.Signed.{le_z}
 use Rattle.std.proofs.lemmas.Int.{ints}
 use Rattle.std.specs.List.{AllByRecursion}
@@ -7,14 +7,16 @@ use Rattle.std.proofs.ByRecursion.{All-get_or, All-from_get_or}
 use Rattle.std.proofs.lemmas.Bool.{cond-true, and_parts, leb-true}
 use Rattle.std.proofs.lemmas.Bool.Decides.{nat_tests, Decides-and}
 use Rattle.lines.specs.declared.vertex.Vertex.{Vertex}
+use Rattle.lines.specs.declared.fault.Layer.TheVariants.{Content}
+use Rattle.lines.specs.Fault.{then}
 use Rattle.lines.specs.Vertex.{origin, InRange, in_range}
-use Rattle.lines.specs.Line.{Counted, Lawful, ranged_from, judged_line}
-use Rattle.lines.proofs.Levels.{passed}
+use Rattle.lines.specs.Line.{Counted, Lawful, ranged_from, judged_size, judged_line}
+use Rattle.lines.proofs.Levels.{passed, both_granted}
 
 pub counted : (vs : List Vertex) → Counted vs → judged_line vs ≡ ranged_from 0 vs
 counted vs c =
     let b : (leb 2 (length vs) && leb (length vs) 256) ≡ true = grind (arith, nat_tests) in
-    cond-true _ _ _ b
+    ap (λ r. then r (λ _. ranged_from 0 vs)) (cond-true _ _ _ b)
 
 -- a test of order, and the order
 decides_le_z : (a b : ℤ) → Decides (le_z a b) (a ≤ℤ b)
@@ -43,6 +45,6 @@ judged_line_means vs = (sound, λ l. rw (lawful_judged vs l) refl)
   where
     sound : is_ok (judged_line vs) ≡ true → Lawful vs
     sound h =
-        let p = passed _ _ _ h in
-        let c = and_parts _ _ p.0 in
+        let p = both_granted (judged_size Content (length vs)) (λ _. ranged_from 0 vs) h in
+        let c = and_parts _ _ (passed _ _ _ p.0).0 in
         ((leb-true _ _ c.0, leb-true _ _ c.1), λ i l. All-get_or InRange vs i origin l (ranged_sound 0 vs p.1))

@@ -2,9 +2,10 @@
 use Rattle.std.specs.Prelude.{◌≡◌, ℕ, ◌+◌, ◌<◌, ◌≤◌, Bool, cond, ◌&&◌, ◌⊎◌, List, [], ◌∷◌, length, pos, Ok, Err, Result, nat_le, nat_lt, slice_index_or}
 use Rattle.lines.specs.declared.fault.Fault.{Fault}
 use Rattle.lines.specs.declared.fault.Cause.TheVariants.{Limits, Coordinate}
+use Rattle.lines.specs.declared.fault.Layer.{Layer}
 use Rattle.lines.specs.declared.fault.Layer.TheVariants.{Content}
 use Rattle.lines.specs.declared.vertex.Vertex.{Vertex}
-use Rattle.lines.specs.Fault.{fault}
+use Rattle.lines.specs.Fault.{fault, then}
 use Rattle.lines.specs.Vertex.{at, origin, InRange, in_range}
 
 -- A line has 2 to 256 vertices.
@@ -26,9 +27,13 @@ abbrev pub ranged_from : ℕ → List Vertex → Result (Unit {0}) Fault
 ranged_from i [] = Ok tt
 ranged_from i (v ∷ vs) = cond (in_range v) (ranged_from (i + 1) vs) (Err (fault Coordinate Content i))
 
+-- A line has 2 to 256 vertices; any other number of them is out of limits.
+abbrev pub judged_size : Layer → ℕ → Result (Unit {0}) Fault
+judged_size layer n = cond (nat_le 2 n && nat_le n 256) (Ok tt) (Err (fault Limits layer 0))
+
 -- What the making of a line answers: the count is judged first, then every vertex in turn.
 abbrev pub judged_line : List Vertex → Result (Unit {0}) Fault
-judged_line vs = cond (nat_le 2 (length vs) && nat_le (length vs) 256) (ranged_from 0 vs) (Err (fault Limits Content 0))
+judged_line vs = then (judged_size Content (length vs)) (λ _. ranged_from 0 vs)
 
 -- The built-in line: (0, 0) (1, 0).
 abbrev pub built_in : List Vertex

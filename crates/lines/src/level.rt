@@ -4,7 +4,7 @@ ghost use Rattle.lines.specs.Level.{LawfulLevels, judged_levels, judged_count};
 use crate::fault::{Cause, Fault, Layer};
 
 // A level of a job: its tolerance and its weight. Level 1 is the finest.
-#[derive(Clone, Copy, PartialEq, Eq, Debug)]
+#[derive(Clone, Copy, PartialEq, Eq, Default, Debug)]
 pub struct Level {
     pub tolerance: u32,
     pub weight: u32,

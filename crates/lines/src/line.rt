@@ -1,5 +1,5 @@
-ghost use Rattle.std.specs.Prelude.{◌≡◌, ◌<◌, length, Decides, MatchResult};
-ghost use Rattle.lines.specs.Line.{Lawful, Blamed, judged_line, built_in, is_link};
+ghost use Rattle.std.specs.Prelude.{◌≡◌, ◌<◌, ◌≤◌, length, is_ok, Decides, MatchResult};
+ghost use Rattle.lines.specs.Line.{Lawful, Blamed, judged_size, judged_line, built_in, is_link};
 
 use crate::fault::{Cause, Fault, Layer};
 use crate::vertex::Vertex;
@@ -9,6 +9,17 @@ use crate::vertex::Vertex;
 pub struct Line<'a> {
     vertices: &'a [Vertex],
     ghost lawful: { Lawful vertices.now },
+}
+
+// Judges the number of vertices of a line: 2 to 256.
+pub fn check_size(n: usize, layer: Layer) -> Result<(), Fault>
+    ensures answer { result ≡ judged_size layer n }
+    ensures lawful { Decides (is_ok result) ((2 ≤ n) × (n ≤ 256)) }
+{
+    if n < 2 || n > 256 {
+        return Err(Fault::new(Cause::Limits, layer, 0));
+    }
+    Ok(())
 }
 
 static BUILT_IN: [Vertex; 2] = [Vertex { x: 0, y: 0 }, Vertex { x: 1, y: 0 }];
@@ -29,10 +40,7 @@ impl<'a> Line<'a> {
         ensures names_the_first_fault { MatchResult result (λ _. Lawful vertices.now) (λ f. Blamed vertices.now f) }
         ensures refusal_leaves_line { MatchResult result (λ _. self.new.vertices ≡ vertices.entry) (λ _. self.new ≡ self.old) }
     {
-        let count = vertices.len();
-        if count < 2 || count > 256 {
-            return Err(Fault::new(Cause::Limits, Layer::Content, 0));
-        }
+        check_size(vertices.len(), Layer::Content)?;
         // A loop over the slice with its index: the project rules this form here.
         for (i, v) in vertices.iter().enumerate() {
             if !v.in_range() {
