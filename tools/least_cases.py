@@ -1,5 +1,5 @@
 #!/usr/bin/env python3
-"""Writes the batch of job packs that `least_hex` is run on, and what it must print for each.
+"""Writes the batch of job packs that `least_hex` and `draw_hex` are run on, and what each must print for each pack.
 
 The drawings come from the plain recurrence below, the refusals from the plain reader below. They follow docs/RULES.md,
 docs/FORMATS.md and docs/REFUSALS.md, and share no code with the crates; measures, areas and records are those of
@@ -7,7 +7,7 @@ mark_cases.py. Of small lines all families are listed too, and none may be cheap
 the crates, so this finds slips, and not a rule that was misread in both. The numbers are drawn from a fixed start, so a
 second run writes the same files.
 
-    tools/least_cases.py            writes crates/least_hex/stdin and crates/least_hex/stdout
+    tools/least_cases.py            writes stdin and stdout of crates/least_hex and crates/draw_hex
     tools/least_cases.py --check    only compares these files, and ends with status 1 where they differ
 """
 import os
@@ -19,7 +19,10 @@ from itertools import combinations, product
 sys.dont_write_bytecode = True
 from mark_cases import FIVE, LARGEST, TWO_LEVELS, Refused, allowed, area, family, job, read, record, refuse
 
-HERE = os.path.join(os.path.dirname(os.path.abspath(__file__)), '..', 'crates', 'least_hex')
+CRATES = os.path.join(os.path.dirname(os.path.abspath(__file__)), '..', 'crates')
+
+# The grades, prices and stays that `draw` lends.
+LENT = 1600, 4000, 40
 
 
 def read_job(data):
@@ -55,15 +58,15 @@ def add(a, b):
 
 
 class Job:
-    """A lawful job: what links cost and which are allowed, the least totals, and the first least family."""
+    """A lawful job, and pins that no link may skip: what links cost and which are allowed, the least totals, and the first least family."""
 
-    def __init__(self, measure, price, line, levels):
+    def __init__(self, measure, price, line, levels, pins=frozenset()):
         self.n, self.m = len(line), len(levels)
         self.weights = [w for _, w in levels]
         links = list(combinations(range(self.n), 2))
         self.areas = {(i, j): area(line, i, j) if price == 2 else 0 for i, j in links}
-        self.open = [[[j for j in range(i + 1, self.n) if allowed(measure, line, i, j, t)] for i in range(self.n)]
-                     for t, _ in levels]
+        self.open = [[[j for j in range(i + 1, self.n) if pins.isdisjoint(range(i + 1, j)) and allowed(measure, line, i, j, t)]
+                      for i in range(self.n)] for t, _ in levels]
         self.least = {}
         for k in range(1, self.m + 1):
             self.fill(k)
@@ -113,21 +116,32 @@ class Job:
             paid = add(paid, self.price(k, i, j))
         return paid
 
-    def families(self):
-        """The totals of all families, found by trying every stay of every vertex."""
-        for inner in product(range(self.m + 1), repeat=self.n - 2):
+    def families(self, pins=frozenset()):
+        """The totals of all families that have these pins at every level, found by trying every stay of every other vertex."""
+        for inner in product(*([self.m] if v in pins else range(self.m + 1) for v in range(1, self.n - 1))):
             stays = self.m, *inner, self.m
             sums = [self.cost(k, [v for v in range(self.n) if stays[v] >= k]) for k in range(1, self.m + 1)]
             if None not in sums:
                 yield tuple(map(sum, zip(*sums)))
 
 
-def answer(data):
-    """What `least_hex` prints for a pack."""
+def check_memory(line, levels):
+    """The memory that `draw` lends: grades first, then prices, then stays."""
+    n, m = len(line), len(levels)
+    for place, cells in enumerate((n * n, m * n * n, n)):
+        if cells > LENT[place]:
+            refuse(18, 4, place)
+
+
+def answer(data, lent):
+    """What `least_hex` prints for a pack, or `draw_hex`, where a line has only the memory that is lent."""
     try:
-        work = Job(*read_job(data))
+        content = read_job(data)
+        if lent:
+            check_memory(*content[2:])
     except Refused as r:
         return [str(r)]
+    work = Job(*content)
     if (work.m + 1) ** (work.n - 2) <= 300:
         assert min(work.families()) == work.total(work.m, 0, work.n - 1)
         chains = work.chains()
@@ -180,6 +194,13 @@ def limits():
         yield job(1, 1, FIVE, levels)
 
 
+def memories():
+    """Lines about as long as the memory of `draw` reaches."""
+    for m, most in ((1, 40), (2, 40), (3, 36), (4, 31), (5, 28), (8, 22)):
+        for n in (most, most + 1):
+            yield job(2, 1, [(k * 3, k * k % 11) for k in range(n)], [(2 * k, k) for k in range(1, m + 1)])
+
+
 def damaged():
     """One job cut at each length, with each byte changed, and with bytes left over; then two faults at once."""
     whole = job(1, 1, FIVE, TWO_LEVELS)
@@ -201,32 +222,38 @@ def damaged():
     yield whole[:34] + record(3, b'\1' * 12)
 
 
-def cases():
+def cases(lent):
     """Each line of the input, and the lines that are printed for it."""
     rng = random.Random(20261126)
-    for source in (sound(rng), largest(), limits(), damaged()):
+    for source in (sound(rng), largest(), limits(), memories(), damaged()):
         for data in source:
-            yield data.hex(), answer(data)
-    yield job(2, 2, FIVE, TWO_LEVELS).hex().upper(), answer(job(2, 2, FIVE, TWO_LEVELS))
+            yield data.hex(), answer(data, lent)
+    yield job(2, 2, FIVE, TWO_LEVELS).hex().upper(), answer(job(2, 2, FIVE, TWO_LEVELS), lent)
     for text in ('0', 'xyz', '0g', '02000000010', '0x02', ' 02'):
         yield text, ['not hex']
 
 
-def main():
-    texts, answers = zip(*cases())
+def compare(crate, cases):
+    """Writes the files of a crate, or answers whether they differ from what they must be."""
+    texts, answers = zip(*cases)
     files = {'stdin': list(texts), 'stdout': [line for lines in answers for line in lines]}
     differ = False
     for name, lines in files.items():
-        text, path = ''.join(line + '\n' for line in lines), os.path.join(HERE, name)
+        text, path = ''.join(line + '\n' for line in lines), os.path.join(CRATES, crate, name)
         if '--check' not in sys.argv[1:]:
             with open(path, 'w') as f:
                 f.write(text)
         else:
             with open(path) as f:
                 if f.read() != text:
-                    print(f'{name} differs')
+                    print(f'{crate}/{name} differs')
                     differ = True
-    sys.exit(differ)
+    return differ
+
+
+def main():
+    differ = [compare('least_hex', cases(False)), compare('draw_hex', cases(True))]
+    sys.exit(any(differ))
 
 
 if __name__ == '__main__':

@@ -2,6 +2,7 @@
 #![tactic(auto)]
 
 pub mod drawing;
+pub mod memory;
 pub mod pack;
 #[cfg(test)]
 mod tests;

@@ -1,11 +1,12 @@
 // The whole path from the bytes of a job pack to its drawing.
-ghost use Rattle.std.specs.Prelude.{◌≡◌, ◌≤◌, length, take, IfOk};
+ghost use Rattle.std.specs.Prelude.{◌≤◌, take};
 ghost use Rattle.lines.specs.Line.{Lawful};
 ghost use Rattle.packs.specs.Kind.{measure_largest};
 ghost use Rattle.marker.specs.Pack.{measure_says};
 ghost use Rattle.drawings.specs.Pack.{Shows, ShowsPriced, Drawable, Made, Draws};
 
 use crate::drawing::{DrawError, Drawing};
+use crate::memory::filled;
 use lines::level::Level;
 use lines::line::Line;
 use measures::area::Area;
@@ -20,25 +21,8 @@ use prices::count::Count;
 use prices::count_then_area::CountThenArea;
 use prices::price::Price;
 use search::least::find_least;
-use std::alloc::{AllocError, Global};
-
-// A grade for each pair of 256 vertices.
-const GRADES: usize = 65_536;
-
-// A price for each such pair at each of 8 levels.
-const PRICES: usize = 524_288;
-
-// A stay for each of 256 vertices.
-const STAYS: usize = 256;
-
-// Memory of n equal values.
-fn filled<T: Copy>(heap: Global, n: usize, value: T) -> Result<Vec<T>, AllocError>
-    ensures { IfOk result (λ memory. length memory.items ≡ n) }
-{
-    let mut memory = Vec::new(heap);
-    memory.resize(n, value)?;
-    Ok(memory)
-}
+use search::room::Room;
+use std::alloc::Global;
 
 // A line and its levels, which are drawn in memory of a heap.
 #[derive(Clone, Copy)]
@@ -55,9 +39,9 @@ impl Sketch<'_> {
         requires { Drawable M.Measure.LARGEST self.now.levels.now }
         ensures { Made (Shows P.Price.kind P.Price.link (M.Measure.says measure.now) self.now.line.vertices.now self.now.levels.now) result }
     {
-        let mut grades = filled(self.heap, GRADES, 0u8)?;
-        let mut prices = filled(self.heap, PRICES, P::neutral())?;
-        let mut stays = filled(self.heap, STAYS, 0u8)?;
+        let mut grades = filled(self.heap, Room::FULL.grades, 0u8)?;
+        let mut prices = filled(self.heap, Room::FULL.prices, P::neutral())?;
+        let mut stays = filled(self.heap, Room::FULL.stays, 0u8)?;
         let total = find_least(
             measure,
             &self.line,

@@ -73,12 +73,25 @@ fn level_lines(heap: Global, m: usize, stays: &[u8]) -> Result<String, AllocErro
     Ok(text)
 }
 
-// The lines of a drawing. No `Display` writes them: a chain is read into memory, and a `Display` is given no heap.
+// The lines of a family of m levels, with the chains that are read off the stays, and that of its total, by its form.
+// No `Display` writes them: a chain is read into memory, and a `Display` is given no heap.
+pub fn family_text(
+    heap: Global,
+    m: usize,
+    stays: &[u8],
+    form: (u32, u64),
+) -> Result<String, AllocError>
+    ensures { IfOk result (λ s. string_bytes s ≡ drawing_text m stays.now form) }
+{
+    let mut text = level_lines(heap, m, stays)?;
+    let total = Total(form);
+    writeln!(text, "{total}")?;
+    Ok(text)
+}
+
+// The lines of a drawing.
 pub fn drawing_text(heap: Global, drawing: &Drawing) -> Result<String, AllocError>
     ensures { IfOk result (λ s. string_bytes s ≡ drawing_text drawing.now.levels drawing.now.stays.items drawing.now.form) }
 {
-    let mut text = level_lines(heap, drawing.levels, drawing.stays.as_slice())?;
-    let total = Total(drawing.form);
-    writeln!(text, "{total}")?;
-    Ok(text)
+    family_text(heap, drawing.levels, drawing.stays.as_slice(), drawing.form)
 }

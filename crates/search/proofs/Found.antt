@@ -69,18 +69,18 @@ module _ {P : Type 0} (K : prices.Kind P) (price : ℕ → ℕ → ℕ → P) (l
     }
 
   -- the family that is read off the stays
-  pub least_so : prices.Rules K → (grades : List ℕ) (prices' : List P) (stays : List ℕ) (sum : P) → Cells K price allowed m n grades prices' stays →
+  pub least_so : prices.Rules K → (stays : List ℕ) (sum : P) → ((v : ℕ) → v < n → get_or stays v 0 ≡ stay (first_least K price allowed m n) m v) →
       sum ≡ L K price allowed m 0 (n - 1) → Least K price allowed m n stays sum
-  least_so law grades prices' stays sum cells e =
+  least_so law stays sum stayed e =
       let near = next_allowed largest ls levels says rules vs line in
       let family = first_least K price allowed m n in
       let read = λ (v : ℕ). get_or stays v 0 in
       let some : 1 ≤ n = omega (arith, line.0.0) in
-      let r = stays_least law price allowed m n some near read cells.stayed in
+      let r = stays_least law price allowed m n some near read stayed in
       let first = stands law price allowed m n near in
       record {
         family = r.0;
-        first_of_all = λ k p q. staying_same n read (stay family m) cells.stayed k n 0 (omega arith) ∙ say_all allowed m n family some first.0 k p q;
+        first_of_all = λ k p q. staying_same n read (stay family m) stayed k n 0 (omega arith) ∙ say_all allowed m n family some first.0 k p q;
         totals = ap K.form e ∙ sym r.1;
         nothing_smaller = λ chain fam. subst (λ z. prices.NotDearer K z (total K price m chain)) (sym e) (nothing_smaller law price allowed m n chain fam);
       }

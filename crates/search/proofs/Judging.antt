@@ -6,13 +6,8 @@ use Rattle.lines.specs.Level.{judged_count, judged_levels}
 use Rattle.lines.specs.declared.fault.Fault.{Fault}
 use Rattle.lines.specs.declared.fault.Layer.TheVariants.{Sheet}
 use Rattle.lines.specs.declared.level.Level.{Level}
-use Rattle.lines.proofs.Levels.{passed, judged_means}
+use Rattle.lines.proofs.Levels.{passed, both_granted, judged_means}
 use Rattle.search.specs.Search.{judged_memory, judged_search, Searchable}
-
--- both parts of what is judged one after the other
-both_granted : {X : Type 0} (a : Result (Unit {0}) Fault) (b : Unit {0} → Result X Fault) → is_ok (then a b) ≡ true → (is_ok a ≡ true) × (is_ok (b tt) ≡ true)
-both_granted (Ok x) b h = (refl, h)
-both_granted (Err e) b h = (h, cc)
 
 both_grant : {X : Type 0} (a : Result (Unit {0}) Fault) (b : Unit {0} → Result X Fault) → is_ok a ≡ true → is_ok (b tt) ≡ true → is_ok (then a b) ≡ true
 both_grant (Ok x) b p q = q

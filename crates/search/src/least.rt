@@ -4,15 +4,13 @@ ghost use Rattle.families.specs.Least.{L, first_least};
 ghost use Rattle.families.specs.Stay.{stay};
 ghost use Rattle.tables.specs.Row.{KeptOutside, TableHolds};
 ghost use Rattle.tables.specs.Terms.{costs, grants};
-ghost use Rattle.lines.specs.Fault.{fault};
-ghost use Rattle.lines.specs.declared.fault.Cause.TheVariants.{Memory};
-ghost use Rattle.lines.specs.declared.fault.Layer.TheVariants.{Sheet};
 ghost use Rattle.measures.specs.Measure.{allowed_by};
 ghost use Rattle.prices.specs.Price.{price_by};
-ghost use Rattle.search.specs.Search.{judged_memory, judged_search, least_answer, Searchable, Cells, Least, RestKept};
+ghost use Rattle.search.specs.Search.{judged_search, least_answer, Searchable, Cells, Least, RestKept};
 
+use crate::room::Room;
 use crate::stays::Walk;
-use lines::fault::{Cause, Fault, Layer};
+use lines::fault::{Fault, Layer};
 use lines::level::{Level, check_count, check_levels};
 use lines::line::Line;
 use measures::measure::Measure;
@@ -20,34 +18,6 @@ use prices::price::Price;
 use tables::grade_table::{GradeTable, grade_links};
 use tables::price_table::PriceTable;
 use tables::terms::Terms;
-
-// How many cells each lent memory has.
-#[derive(Clone, Copy)]
-struct Room {
-    grades: usize,
-    prices: usize,
-    stays: usize,
-}
-
-impl Room {
-    // Judges the memory, for m levels and a line.
-    fn check(&self, m: usize, line: &Line) -> Result<(), Fault>
-        requires { m ≤ 8 }
-        ensures { result ≡ judged_memory m (length line.now.vertices.now) self.now.grades self.now.prices self.now.stays }
-    {
-        let n = line.count();
-        if n * n > self.grades {
-            return Err(Fault::new(Cause::Memory, Layer::Sheet, 0));
-        }
-        if m * (n * n) > self.prices {
-            return Err(Fault::new(Cause::Memory, Layer::Sheet, 1));
-        }
-        if n > self.stays {
-            return Err(Fault::new(Cause::Memory, Layer::Sheet, 2));
-        }
-        Ok(())
-    }
-}
 
 // Judges levels and memory before a search.
 fn check_search<M: Measure>(line: &Line, levels: &[Level], room: Room) -> Result<(), Fault>

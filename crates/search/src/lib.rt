@@ -3,4 +3,5 @@
 
 pub mod chain;
 pub mod least;
+pub mod room;
 mod stays;

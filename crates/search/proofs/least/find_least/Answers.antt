@@ -51,7 +51,7 @@ returns-clause-nothing_smaller g c =
     let total = total_is g.P.Price.kind price g.M.Measure.LARGEST says vs ls (length c.args.grades.now) (length c.args.prices.now) (length c.args.stays.now) tt
     c.find_graded.result c.in_ok-check_search.ensures (returns-clause-answer g c) in
     least_so g.P.Price.kind price g.M.Measure.LARGEST says (g.met.M.Measure.rules c.args.measure.now) vs c.args.line.now.lawful ls s.levels_lawful
-    g.met.P.Price.rules c.grade_links.new.cells c.find_graded.new.prices c.find_graded.new.stays c.find_graded.result (returns-clause-cells g c) total
+    g.met.P.Price.rules c.find_graded.new.stays c.find_graded.result (returns-clause-cells g c).stayed total
 
 pub returns-clause-rest_kept : goal.returns-clause-rest_kept
 returns-clause-rest_kept g c =

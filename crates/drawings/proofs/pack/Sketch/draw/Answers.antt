@@ -18,7 +18,7 @@ returns g c =
         c.truncate.ensures.len,
         c.truncate.new.self.ok.0,
         c.in_ok-stays.stays.ok.0,
-        c.in_ok-stays.ensures,
+        c.in_ok-stays.ensures.length,
         c.count.ensures,
         c.args.self.now.line.lawful.0.1,
       );

@@ -1,0 +1,5 @@
+pub mod Told
+pub mod Drew
+pub mod Jobs
+pub mod Texts
+pub mod Scripts

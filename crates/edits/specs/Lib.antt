@@ -1,0 +1,5 @@
+pub mod Edit
+pub mod Perform
+pub mod Job
+pub mod Text
+pub mod Script

@@ -1,0 +1,10 @@
+pub mod Eligible
+pub mod Written
+pub mod Answered
+pub mod Retuning
+pub mod Parts
+pub mod Lawful
+pub mod Least
+pub mod Histories
+pub mod Performing
+pub mod Opening
