@@ -1,0 +1,9 @@
+use Rattle.std.proofs.Common.{rules}
+use Rattle.packs.specs.Bytes.{le}
+use Rattle.writer.proofs.Putting.{wrote_both}
+use Rattle.writer.proofs.put.put_header.Goals as goal
+
+pub returns : goal.returns
+returns c =
+    wrote_both c.args.at c.put_u32-at.result c.put_u16.result c.args.bytes.now c.put_u32-at.new.bytes c.put_u16.new.bytes (le 4 c.args.size) (le 2 c.args.kind) (search rules)
+    c.put_u32-at.ensures c.put_u16.ensures

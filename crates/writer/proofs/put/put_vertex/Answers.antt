@@ -1,0 +1,14 @@
+use Rattle.std.proofs.Common.{◌≡◌, subst, rules}
+use Rattle.packs.specs.Bytes.{le, unsigned}
+use Rattle.writer.specs.Put.{Wrote}
+use Rattle.writer.proofs.Putting.{wrote_both}
+use Rattle.writer.proofs.Numbers.{written_signed}
+use Rattle.writer.proofs.put.put_vertex.Goals as goal
+
+pub returns : goal.returns
+returns c =
+    let x : c.cast_unsigned.result ≡ unsigned c.args.v.x = search (rules, written_signed c.args.v.x) in
+    let y : c.cast_unsigned-2.result ≡ unsigned c.args.v.y = search (rules, written_signed c.args.v.y) in
+    wrote_both c.args.at c.put_u16-at.result c.put_u16.result c.args.bytes.now c.put_u16-at.new.bytes c.put_u16.new.bytes (le 2 (unsigned c.args.v.x)) (le 2 (unsigned c.args.v.y)) (search rules)
+    (subst (λ n. Wrote c.args.at c.args.bytes.now c.put_u16-at.new.bytes (le 2 n) c.put_u16-at.result) x c.put_u16-at.ensures)
+    (subst (λ n. Wrote c.put_u16-at.result c.put_u16-at.new.bytes c.put_u16.new.bytes (le 2 n) c.put_u16.result) y c.put_u16.ensures)

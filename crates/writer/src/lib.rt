@@ -1,0 +1,8 @@
+// Writing packs into lent bytes.
+#![tactic(auto)]
+
+pub mod family;
+pub mod job;
+mod put;
+#[cfg(test)]
+mod tests;
