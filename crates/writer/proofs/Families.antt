@@ -1,5 +1,6 @@
 -- The pack of a family: its length, and when the memory has room for it. Assumes nothing.
 use Rattle.std.proofs.Common.{◌≡◌, ℕ, ◌+◌, ◌*◌, ◌<◌, ◌≤◌, leb, List, ◌++◌, length, drop, Ok, Err, sym, ap, ap₂, subst, ◌∙◌, arith, length-append}
+use Rattle.std.proofs.Math.Nat.{zero-add}
 use Rattle.std.specs.List.{flat_map}
 use Rattle.std.proofs.lemmas.Bool.{cond-true, cond-false, le-leb, lt-leb}
 use Rattle.lines.specs.Fault.{fault, then}
@@ -16,7 +17,7 @@ use Rattle.writer.specs.Job.{content, judged_job, fitting, bytes_after}
 use Rattle.writer.specs.Family.{chains_of, judged_counts, CountsFit, records_of, family_pack}
 use Rattle.writer.specs.declared.family.Family.{Family}
 use Rattle.writer.proofs.Chains.{joined_length}
-use Rattle.writer.proofs.Jobs.{records, pack_length, none_added}
+use Rattle.writer.proofs.Jobs.{records, pack_length}
 
 module _ (measure price : ℕ) (vs : List Vertex) (ls : List Level) (f : Family) (k : MeasureKind × PriceKind) (judged : judged_job measure price ls ≡ Ok k)
     (counted : judged_counts (length vs) (length ls) f.counts.now (length f.chains.now) ≡ Ok tt) (fit : CountsFit (length vs) (length ls) f.counts.now (length f.chains.now)) where
@@ -50,5 +51,5 @@ module _ (measure price : ℕ) (vs : List Vertex) (ls : List Level) (f : Family)
       after ≡ bytes_after (family_pack measure price vs ls f (length before)) before
   written before after end room wrote =
       let same : job_records measure price vs ls ++ records_of f ≡ pack = ap (λ xs. xs ++ records_of f) (records measure price ls k judged vs) in
-      let stop : end ≡ length pack = wrote.ends ∙ none_added (length (job_records measure price vs ls ++ records_of f)) ∙ ap length same in
+      let stop : end ≡ length pack = wrote.ends ∙ zero-add (length (job_records measure price vs ls ++ records_of f)) ∙ ap length same in
       wrote.bytes ∙ ap₂ (λ xs n. xs ++ drop n before) same stop ∙ sym (ap (λ r. bytes_after r before) (fits (length before) room))

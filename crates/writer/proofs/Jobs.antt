@@ -1,5 +1,6 @@
 -- The pack of a job: its length, its numbers, and reading it back. Assumes nothing.
 use Rattle.std.proofs.Common.{◌≡◌, ℕ, ◌+◌, ◌*◌, ◌<◌, ◌≤◌, leb, List, [], ◌∷◌, ◌++◌, length, take, drop, is_ok, Some, Ok, Err, sym, refl, ap, ap₂, subst, ◌∙◌, arith, length-append}
+use Rattle.std.proofs.Math.Nat.{zero-add}
 use Rattle.std.specs.List.{flat_map}
 use Rattle.std.proofs.lemmas.List.{take_at}
 use Rattle.std.proofs.lemmas.Bool.{cond-true, cond-false, and_parts, leb-true, le-leb, lt-leb}
@@ -26,9 +27,6 @@ use Rattle.packs.proofs.ItemTrips.{length_joined}
 use Rattle.packs.proofs.LittleEndian.{octets_take}
 use Rattle.writer.specs.Put.{Wrote, job_records}
 use Rattle.writer.specs.Job.{content, judged_job, fitting, job_pack, JobReadBack}
-
-pub none_added : (n : ℕ) → 0 + n ≡ n
-none_added n = omega arith
 
 -- a known number is that of the measure, or of the price
 measure_known : (n : ℕ) (me : MeasureKind) → measure_numbered n ≡ Some me → measure_number me ≡ n
@@ -94,7 +92,7 @@ module _ (measure price : ℕ) (ls : List Level) (k : MeasureKind × PriceKind) 
     read_back line before after size octets wrote =
         let j = content k.0 k.1 vs ls in
         let front : take size after ≡ encoded j =
-        ap (take size) (wrote.bytes) ∙ take_at (job_records measure price vs ls) (drop size before) size (sym (wrote.ends ∙ none_added (length (job_records measure price vs ls)))) ∙ records in
+        ap (take size) (wrote.bytes) ∙ take_at (job_records measure price vs ls) (drop size before) size (sym (wrote.ends ∙ zero-add (length (job_records measure price vs ls)))) ∙ records in
         let lawful : LawfulContent j = record { line = line; count = what_judged.count; levels_lawful = what_judged.levels_lawful } in
         record {
           job = j;
