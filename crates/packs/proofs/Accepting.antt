@@ -31,12 +31,12 @@ use Rattle.packs.proofs.LittleEndian.{octets_drop}
 use Rattle.packs.proofs.RecordTrips.{begins, record_split, record_split_at, record_join, record_rest}
 
 -- numbers of measures and prices
-measure_known : (n : ℕ) (me : MeasureKind) → measure_numbered n ≡ Some me → n ≡ measure_number me
+pub measure_known : (n : ℕ) (me : MeasureKind) → measure_numbered n ≡ Some me → n ≡ measure_number me
 measure_known n Segment h = grind (arith, nat_tests)
 measure_known n Strip h = grind (arith, nat_tests)
 measure_known n Area h = grind (arith, nat_tests)
 
-price_known : (n : ℕ) (pr : PriceKind) → price_numbered n ≡ Some pr → n ≡ price_number pr
+pub price_known : (n : ℕ) (pr : PriceKind) → price_numbered n ≡ Some pr → n ≡ price_number pr
 price_known n Count h = grind (arith, nat_tests)
 price_known n CountThenArea h = grind (arith, nat_tests)
 

@@ -1,5 +1,5 @@
 ghost use Rattle.std.specs.Prelude.{◌≡◌, Some, ok_or};
-ghost use Rattle.packs.specs.Kind.{measure_numbered, price_numbered, unknown, unknown_text, measure_largest};
+ghost use Rattle.packs.specs.Kind.{measure_number, price_number, measure_numbered, price_numbered, unknown, unknown_text, measure_largest};
 
 use measures::area::Area;
 use measures::measure::Measure;
@@ -54,6 +54,31 @@ impl TryFrom<u8> for PriceKind {
             1 => Ok(PriceKind::Count),
             2 => Ok(PriceKind::CountThenArea),
             _ => Err(UnknownNumber(number)),
+        }
+    }
+}
+
+// The number of a measure.
+impl From<MeasureKind> for u8 {
+    ghost from_gives = { λ measure number. number ≡ measure_number measure };
+
+    fn from(measure: MeasureKind) -> u8 {
+        match measure {
+            MeasureKind::Segment => 1,
+            MeasureKind::Strip => 2,
+            MeasureKind::Area => 3,
+        }
+    }
+}
+
+// The number of a price.
+impl From<PriceKind> for u8 {
+    ghost from_gives = { λ price number. number ≡ price_number price };
+
+    fn from(price: PriceKind) -> u8 {
+        match price {
+            PriceKind::Count => 1,
+            PriceKind::CountThenArea => 2,
         }
     }
 }

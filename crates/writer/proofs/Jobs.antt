@@ -21,22 +21,12 @@ use Rattle.packs.specs.declared.kind.MeasureKind.{MeasureKind}
 use Rattle.packs.specs.declared.kind.MeasureKind.TheVariants.{Segment, Strip, Area}
 use Rattle.packs.specs.declared.kind.PriceKind.{PriceKind}
 use Rattle.packs.specs.declared.kind.PriceKind.TheVariants.{Count, CountThenArea}
-use Rattle.packs.proofs.Accepting.{accepts_jobs}
+use Rattle.packs.proofs.Accepting.{measure_known, price_known, accepts_jobs}
 use Rattle.packs.proofs.Answered.{then_ok, known_ok, same_answer}
 use Rattle.packs.proofs.ItemTrips.{length_joined}
 use Rattle.packs.proofs.LittleEndian.{octets_take}
 use Rattle.writer.specs.Put.{Wrote, job_records}
 use Rattle.writer.specs.Job.{content, judged_job, fitting, job_pack, JobReadBack}
-
--- a known number is that of the measure, or of the price
-measure_known : (n : ℕ) (me : MeasureKind) → measure_numbered n ≡ Some me → measure_number me ≡ n
-measure_known n Segment h = grind (arith, nat_tests)
-measure_known n Strip h = grind (arith, nat_tests)
-measure_known n Area h = grind (arith, nat_tests)
-
-price_known : (n : ℕ) (pr : PriceKind) → price_numbered n ≡ Some pr → price_number pr ≡ n
-price_known n Count h = grind (arith, nat_tests)
-price_known n CountThenArea h = grind (arith, nat_tests)
 
 module _ (measure price : ℕ) (ls : List Level) (k : MeasureKind × PriceKind) (judged : judged_job measure price ls ≡ Ok k) where
   -- what was judged
@@ -57,8 +47,8 @@ module _ (measure price : ℕ) (ls : List Level) (k : MeasureKind × PriceKind) 
       let pr = ap (λ (z : MeasureKind × PriceKind). z.1) same in
       let counted = and_parts _ _ (passed _ _ _ (ap is_ok p.1)).0 in
       record {
-        same_measure = ap measure_number (sym me) ∙ measure_known measure q.0 q.1;
-        same_price = ap price_number (sym pr) ∙ price_known price r.0 r.1;
+        same_measure = ap measure_number (sym me) ∙ sym (measure_known measure q.0 q.1);
+        same_price = ap price_number (sym pr) ∙ sym (price_known price r.0 r.1);
         count = (leb-true _ _ counted.0, leb-true _ _ counted.1);
         levels_lawful = subst (λ m. LawfulLevels (measure_largest m) ls) me ((judged_means (measure_largest q.0) Pack ls).0 (ap is_ok t.1));
       }
