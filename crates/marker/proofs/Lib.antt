@@ -1,9 +1,14 @@
+pub mod Writing
 pub mod Numbers
 pub mod Walking
 pub mod Stepping
 pub mod Judging
+pub mod Placing
 pub mod Heads
 pub mod ChainTrips
 pub mod TotalTrips
+pub mod FamilyTrips
+pub mod Limits
+pub mod Reading
 pub mod Marking
 pub mod Packs

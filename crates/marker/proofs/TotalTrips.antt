@@ -1,5 +1,5 @@
 -- The total's record written and read back, and the structure of all records. Assumes nothing.
-use Rattle.std.proofs.Common.{◌≡◌, ℕ, ◌+◌, ◌^◌, ◌<◌, List, [], ◌++◌, length, take, drop, Ok, sym, refl, ap, ◌∙◌, ap₂, arith, lit<, length-drop}
+use Rattle.std.proofs.Common.{◌≡◌, ℕ, ◌+◌, List, [], ◌++◌, length, take, drop, Ok, sym, refl, ap, ◌∙◌, ap₂, arith, lit<, length-drop}
 use Rattle.std.proofs.lemmas.List.{append-nil, drop_all}
 use Rattle.std.proofs.lemmas.Bool.{cond-true, eqb-true, eq-eqb}
 use Rattle.packs.specs.declared.record.Due.TheVariants.{Total}
@@ -10,10 +10,7 @@ use Rattle.packs.proofs.LittleEndian.{little_le, le_fields, field_small, octets_
 use Rattle.packs.proofs.Records.{field_drop}
 use Rattle.packs.proofs.RecordTrips.{begins, record_split_at, record_join}
 use Rattle.marker.specs.Records.{total_record, chains_end, structure, claimed}
-
--- A form of 32 and 64 bits.
-abbrev pub SmallForm : ℕ × ℕ → Type 0
-SmallForm f = (f.0 < 2 ^ 32) × (f.1 < 2 ^ 64)
+use Rattle.marker.specs.Reader.{FormFits}
 
 -- What bytes keep whose chain records end at `stop`, with the total's record after them and nothing left over.
 pub record Structured (n m stop : ℕ) (bs : List ℕ) : Type 0 where
@@ -49,7 +46,7 @@ total_split stop bs o h e =
     record_split_at Total stop stop bs 12 o h ∙ ap (λ xs. a_record 5 (take 12 B) ++ xs) (drop_all (stop + 18) bs (omega arith)) ∙
     append-nil (a_record 5 (take 12 B)) ∙ ap (a_record 5) b
 
-pub claimed_small : (stop : ℕ) (bs : List ℕ) → Octets bs → SmallForm (claimed stop bs)
+pub claimed_small : (stop : ℕ) (bs : List ℕ) → Octets bs → FormFits (claimed stop bs)
 claimed_small stop bs o = (field_small 4 (stop + 6) bs o, field_small 8 (stop + 10) bs o)
 
 -- the record that was written
@@ -58,7 +55,7 @@ total_back stop form =
     let body = le 4 form.0 ++ le 8 form.1 in
     ap (record_at Total stop) (sym (append-nil (a_record 5 body))) ∙ record_join Total stop body [] refl (lit< tt)
 
-pub claimed_back : (stop : ℕ) (bs : List ℕ) (form : ℕ × ℕ) → SmallForm form → drop stop bs ≡ total_record form → claimed stop bs ≡ form
+pub claimed_back : (stop : ℕ) (bs : List ℕ) (form : ℕ × ℕ) → FormFits form → drop stop bs ≡ total_record form → claimed stop bs ≡ form
 claimed_back stop bs form s e =
     let a : field 4 (stop + 6) bs ≡ form.0 = sym (field_drop 4 6 stop bs) ∙ ap (field 4 6) e ∙ little_le 4 form.0 s.0 in
     let b : field 8 (stop + 10) bs ≡ form.1 = sym (field_drop 8 10 stop bs) ∙ ap (field 8 10) e ∙ little_le 8 form.1 s.1 in

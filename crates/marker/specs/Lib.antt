@@ -1,5 +1,7 @@
 pub mod Records
 pub mod Chain
+pub mod Wrote
+pub mod Reader
 pub mod Judge
 pub mod Judged
 pub mod Marker

@@ -5,6 +5,7 @@ ghost use Rattle.packs.specs.Bytes.{little};
 ghost use Rattle.marker.specs.Records.{numbers};
 ghost use Rattle.marker.specs.Judge.{in_order, disorder, missing};
 ghost use Rattle.marker.specs.Chain.{numbers_of};
+ghost use Rattle.marker.specs.Wrote.{Wrote};
 
 // A chain: the numbers in the body of a record, two bytes each.
 #[derive(Clone, Copy)]
@@ -12,12 +13,19 @@ pub(crate) struct Chain<'a> {
     pub(crate) numbers: &'a [[u8; 2]],
 }
 
-// The number that two bytes write. A function of its own, for `map` takes it and its contract gives `little` and the bound.
+// The number that two bytes write.
+fn number_16(bytes: &[u8; 2]) -> u16
+    ensures { result ≡ little bytes.now }
+{
+    u16::from_le_bytes(*bytes)
+}
+
+// The same, as wide as a count. A function of its own, for `map` takes it and its contract gives `little` and the bound.
 pub(crate) fn number(bytes: &[u8; 2]) -> usize
     ensures value { result ≡ little bytes.now }
     ensures bound { result < 65536 }
 {
-    usize::from(u16::from_le_bytes(*bytes))
+    usize::from(number_16(bytes))
 }
 
 impl<'a> Chain<'a> {
@@ -28,6 +36,17 @@ impl<'a> Chain<'a> {
         Chain {
             numbers: body.as_chunks().0,
         }
+    }
+
+    // Puts the chain's numbers at a place, and answers the place after them.
+    pub(crate) fn put(&self, numbers: &mut [u16], at: usize) -> usize
+        requires { at + length (numbers_of self.now) ≤ length numbers.old }
+        ensures { Wrote at numbers.old numbers.new (numbers_of self.now) result }
+    {
+        for (i, bytes) in self.numbers.iter().enumerate() {
+            numbers[at + i] = number_16(bytes);
+        }
+        at + self.numbers.len()
     }
 
     // Whether the chain has the vertex v.

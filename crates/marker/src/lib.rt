@@ -5,5 +5,7 @@ mod chain;
 mod level;
 pub mod mark;
 pub mod pack;
+pub mod place;
+pub mod reader;
 mod records;
 pub mod verdict;

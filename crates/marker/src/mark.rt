@@ -7,12 +7,11 @@ ghost use Rattle.marker.specs.Judge.{judged_chains};
 ghost use Rattle.marker.specs.Marker.{marked, MarksFamilies};
 
 use crate::level::{chain_cost, first_forbidden, none_or};
-use crate::records::{Chains, structure};
+use crate::records::{Chains, claimed, structure};
 use lines::fault::{Cause, Fault, Layer};
 use lines::level::{Level, check_count, check_levels};
 use lines::line::Line;
 use measures::measure::Measure;
-use packs::bytes::{u32_at, u64_at};
 use prices::price::Price;
 
 // The chains of a line, one for each level.
@@ -85,8 +84,7 @@ pub fn mark<M: Measure, P: Price>(
     };
     family.judge(measure)?;
     let total = family.total::<P>();
-    let claimed = (u32_at(records, stop + 6), u64_at(records, stop + 10));
-    if total.form() != claimed {
+    if total.form() != claimed(records, stop) {
         return Err(Fault::new(Cause::Total, Layer::Marker, 0));
     }
     Ok(total)

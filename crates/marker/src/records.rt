@@ -1,12 +1,12 @@
 // The chain and total records of a family pack.
-ghost use Rattle.std.specs.Prelude.{◌≡◌, ◌≤◌, true, length, IfOk};
+ghost use Rattle.std.specs.Prelude.{◌≡◌, ◌+◌, ◌≤◌, true, length, IfOk};
 ghost use Rattle.std.specs.Iterator.{YieldsFirstBy, at_most};
 ghost use Rattle.marker.specs.Chain.{numbers_of};
-ghost use Rattle.marker.specs.Records.{whole, chains_in, chains_end, structure};
+ghost use Rattle.marker.specs.Records.{whole, chains_in, chains_end, structure, claimed};
 
 use crate::chain::Chain;
 use lines::fault::{Cause, Fault, Layer};
-use packs::bytes::u32_at;
+use packs::bytes::{u32_at, u64_at};
 use packs::record::{Due, body_length};
 
 // So many chain records that follow one another, each whole.
@@ -57,6 +57,7 @@ fn chains_end(records: &[u8], n: usize, m: usize) -> Result<usize, Fault>
 pub(crate) fn structure(records: &[u8], n: usize, m: usize) -> Result<usize, Fault>
     ensures answer { result ≡ structure n m records.now }
     ensures whole { IfOk result (λ _. whole m records.now ≡ true) }
+    ensures ends { IfOk result (λ stop. stop + 18 ≡ length records.now) }
 {
     let stop = chains_end(records, n, m)?;
     body_length(records, stop, Due::Total)?;
@@ -64,4 +65,12 @@ pub(crate) fn structure(records: &[u8], n: usize, m: usize) -> Result<usize, Fau
         return Err(Fault::new(Cause::LeftOver, Layer::Pack, stop + 18));
     }
     Ok(stop)
+}
+
+// The form that the total's record claims, which starts at `stop`.
+pub(crate) fn claimed(records: &[u8], stop: usize) -> (u32, u64)
+    requires { stop + 18 ≡ length records.now }
+    ensures { result ≡ claimed stop records.now }
+{
+    (u32_at(records, stop + 6), u64_at(records, stop + 10))
 }

@@ -12,7 +12,8 @@ use Rattle.packs.specs.Job.{encoded}
 use Rattle.packs.specs.declared.kind.MeasureKind.{MeasureKind}
 use Rattle.packs.specs.declared.kind.PriceKind.{PriceKind}
 use Rattle.marker.specs.Records.{chain_record, total_record}
-use Rattle.writer.specs.Put.{Wrote, job_records}
+use Rattle.marker.specs.Wrote.{Wrote}
+use Rattle.writer.specs.Put.{job_records}
 use Rattle.writer.specs.Job.{content, judged_job, fitting, bytes_after}
 use Rattle.writer.specs.Family.{chains_of, judged_counts, CountsFit, records_of, family_pack}
 use Rattle.writer.specs.declared.family.Family.{Family}

@@ -1,10 +1,9 @@
 -- The pack of a job: its length, its numbers, and reading it back. Assumes nothing.
-use Rattle.std.proofs.Common.{◌≡◌, ℕ, ◌+◌, ◌*◌, ◌<◌, ◌≤◌, leb, List, [], ◌∷◌, ◌++◌, length, take, drop, is_ok, Some, Ok, Err, sym, refl, ap, ap₂, subst, ◌∙◌, arith, length-append}
+use Rattle.std.proofs.Common.{◌≡◌, ℕ, ◌+◌, ◌*◌, ◌<◌, ◌≤◌, leb, List, [], ◌∷◌, ◌++◌, length, take, drop, is_ok, Ok, Err, sym, refl, ap, ap₂, subst, ◌∙◌, arith, length-append}
 use Rattle.std.proofs.Math.Nat.{zero-add}
 use Rattle.std.specs.List.{flat_map}
 use Rattle.std.proofs.lemmas.List.{take_at}
 use Rattle.std.proofs.lemmas.Bool.{cond-true, cond-false, and_parts, leb-true, le-leb, lt-leb}
-use Rattle.std.proofs.lemmas.Bool.Decides.{nat_tests}
 use Rattle.lines.specs.Fault.{fault, then}
 use Rattle.lines.specs.Line.{Lawful}
 use Rattle.lines.specs.Level.{LawfulLevels, judged_count, judged_levels}
@@ -18,14 +17,13 @@ use Rattle.packs.specs.Record.{a_record}
 use Rattle.packs.specs.Kind.{measure_number, price_number, measure_numbered, price_numbered, measure_largest}
 use Rattle.packs.specs.Job.{LawfulContent, vertex_bytes, level_bytes, encoded}
 use Rattle.packs.specs.declared.kind.MeasureKind.{MeasureKind}
-use Rattle.packs.specs.declared.kind.MeasureKind.TheVariants.{Segment, Strip, Area}
 use Rattle.packs.specs.declared.kind.PriceKind.{PriceKind}
-use Rattle.packs.specs.declared.kind.PriceKind.TheVariants.{Count, CountThenArea}
 use Rattle.packs.proofs.Accepting.{measure_known, price_known, accepts_jobs}
 use Rattle.packs.proofs.Answered.{then_ok, known_ok, same_answer}
 use Rattle.packs.proofs.ItemTrips.{length_joined}
 use Rattle.packs.proofs.LittleEndian.{octets_take}
-use Rattle.writer.specs.Put.{Wrote, job_records}
+use Rattle.marker.specs.Wrote.{Wrote}
+use Rattle.writer.specs.Put.{job_records}
 use Rattle.writer.specs.Job.{content, judged_job, fitting, job_pack, JobReadBack}
 
 module _ (measure price : ℕ) (ls : List Level) (k : MeasureKind × PriceKind) (judged : judged_job measure price ls ≡ Ok k) where

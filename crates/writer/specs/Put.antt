@@ -1,15 +1,10 @@
--- Bytes that are written at a place. Assumes nothing.
-use Rattle.std.specs.Prelude.{◌≡◌, ℕ, ◌+◌, List, [], ◌∷◌, ◌++◌, length, take, drop}
+-- The records of a job. Assumes nothing.
+use Rattle.std.specs.Prelude.{ℕ, List, [], ◌∷◌, ◌++◌}
 use Rattle.std.specs.List.{flat_map}
 use Rattle.lines.specs.declared.level.Level.{Level}
 use Rattle.lines.specs.declared.vertex.Vertex.{Vertex}
 use Rattle.packs.specs.Record.{a_record}
 use Rattle.packs.specs.Job.{vertex_bytes, level_bytes}
-
--- The bytes xs stand from place `at` on, up to `end`; the other bytes are as before.
-pub record Wrote (at : ℕ) (before after xs : List ℕ) (end : ℕ) : Type 0 where
-  pub ends : end ≡ at + length xs
-  pub bytes : after ≡ take at before ++ (xs ++ drop end before)
 
 -- The records of a job with these numbers of a measure and a price.
 abbrev pub job_records : ℕ → ℕ → List Vertex → List Level → List ℕ

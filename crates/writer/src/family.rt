@@ -2,7 +2,7 @@
 ghost use Rattle.std.specs.Prelude.{◌≡◌, ℕ, ◌+◌, ◌*◌, ◌<◌, ◌≤◌, ◌==◌, length, sum, OnOk, slice_index};
 ghost use Rattle.std.specs.List.{flat_map};
 ghost use Rattle.marker.specs.Records.{chain_record};
-ghost use Rattle.writer.specs.Put.{Wrote};
+ghost use Rattle.marker.specs.Wrote.{Wrote};
 ghost use Rattle.writer.specs.Job.{size_answered, bytes_after};
 ghost use Rattle.writer.specs.Family.{chains_of, judged_counts, CountsFit, family_pack};
 

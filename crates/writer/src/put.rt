@@ -5,7 +5,8 @@ ghost use Rattle.packs.specs.Bytes.{le};
 ghost use Rattle.packs.specs.Record.{a_record};
 ghost use Rattle.marker.specs.Records.{chain_record, total_record};
 ghost use Rattle.packs.specs.Job.{vertex_bytes, level_bytes};
-ghost use Rattle.writer.specs.Put.{Wrote, job_records};
+ghost use Rattle.marker.specs.Wrote.{Wrote};
+ghost use Rattle.writer.specs.Put.{job_records};
 
 use lines::level::Level;
 use lines::line::Line;

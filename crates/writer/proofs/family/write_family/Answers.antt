@@ -4,7 +4,7 @@ use Rattle.marker.specs.Records.{chain_record, total_record}
 use Rattle.writer.specs.Put.{job_records}
 use Rattle.writer.specs.Job.{size_answered, bytes_after}
 use Rattle.writer.specs.Family.{chains_of, CountsFit}
-use Rattle.writer.proofs.Putting.{wrote_both}
+use Rattle.marker.proofs.Writing.{wrote_both}
 use Rattle.writer.proofs.Families.{short, written}
 use Rattle.writer.proofs.family.write_family.Goals as goal
 

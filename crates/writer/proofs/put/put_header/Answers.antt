@@ -1,6 +1,6 @@
 use Rattle.std.proofs.Common.{rules}
 use Rattle.packs.specs.Bytes.{le}
-use Rattle.writer.proofs.Putting.{wrote_both}
+use Rattle.marker.proofs.Writing.{wrote_both}
 use Rattle.writer.proofs.put.put_header.Goals as goal
 
 pub returns : goal.returns

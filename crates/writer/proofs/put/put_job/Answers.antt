@@ -2,7 +2,7 @@ use Rattle.std.proofs.Common.{[], ◌∷◌, ◌++◌, rules}
 use Rattle.std.specs.List.{flat_map}
 use Rattle.packs.specs.Record.{a_record}
 use Rattle.packs.specs.Job.{vertex_bytes, level_bytes}
-use Rattle.writer.proofs.Putting.{wrote_both}
+use Rattle.marker.proofs.Writing.{wrote_both}
 use Rattle.writer.proofs.put.put_job.Goals as goal
 
 pub returns-clause-wrote : goal.returns-clause-wrote

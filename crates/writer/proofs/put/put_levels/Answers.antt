@@ -1,6 +1,6 @@
 use Rattle.std.proofs.Common.{rules}
 use Rattle.packs.specs.Job.{level_bytes}
-use Rattle.writer.proofs.Putting.{one_more}
+use Rattle.marker.proofs.Writing.{one_more}
 use Rattle.writer.proofs.put.put_levels.Goals as goal
 
 pub loop-level-preserved : goal.loop-level-preserved

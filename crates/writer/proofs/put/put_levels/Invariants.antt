@@ -1,7 +1,7 @@
 use Rattle.std.proofs.Common.{◌≡◌, ◌+◌, ◌*◌, take}
 use Rattle.std.specs.List.{flat_map}
 use Rattle.packs.specs.Job.{level_bytes}
-use Rattle.writer.specs.Put.{Wrote}
+use Rattle.marker.specs.Wrote.{Wrote}
 use Rattle.writer.proofs.put.put_levels.Given as goal
 
 abbrev pub invariant-loop-level : goal.invariant-loop-level

@@ -1,6 +1,6 @@
 use Rattle.std.proofs.Common.{rules}
 use Rattle.packs.specs.Bytes.{le}
-use Rattle.writer.proofs.Putting.{one_more}
+use Rattle.marker.proofs.Writing.{one_more}
 use Rattle.writer.proofs.put.put_numbers.Goals as goal
 
 pub loop-number-preserved : goal.loop-number-preserved

@@ -1,6 +1,7 @@
 use Rattle.std.proofs.Common.{◌++◌, refl, rules}
 use Rattle.packs.specs.Bytes.{le}
-use Rattle.writer.proofs.Putting.{wrote_both, wrote_record}
+use Rattle.marker.proofs.Writing.{wrote_both}
+use Rattle.writer.proofs.Putting.{wrote_record}
 use Rattle.writer.proofs.put.put_total_record.Goals as goal
 
 pub returns-clause-wrote : goal.returns-clause-wrote

@@ -1,7 +1,7 @@
 use Rattle.std.proofs.Common.{◌≡◌, subst, rules}
 use Rattle.packs.specs.Bytes.{le, unsigned}
-use Rattle.writer.specs.Put.{Wrote}
-use Rattle.writer.proofs.Putting.{wrote_both}
+use Rattle.marker.specs.Wrote.{Wrote}
+use Rattle.marker.proofs.Writing.{wrote_both}
 use Rattle.writer.proofs.Numbers.{written_signed}
 use Rattle.writer.proofs.put.put_vertex.Goals as goal
 

@@ -1,6 +1,6 @@
 use Rattle.std.proofs.Common.{rules}
 use Rattle.packs.specs.Job.{vertex_bytes}
-use Rattle.writer.proofs.Putting.{one_more}
+use Rattle.marker.proofs.Writing.{one_more}
 use Rattle.writer.proofs.put.put_vertices.Goals as goal
 
 pub loop-v-preserved : goal.loop-v-preserved

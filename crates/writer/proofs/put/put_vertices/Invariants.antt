@@ -1,7 +1,7 @@
 use Rattle.std.proofs.Common.{◌≡◌, ◌+◌, ◌*◌, take}
 use Rattle.std.specs.List.{flat_map}
 use Rattle.packs.specs.Job.{vertex_bytes}
-use Rattle.writer.specs.Put.{Wrote}
+use Rattle.marker.specs.Wrote.{Wrote}
 use Rattle.writer.proofs.put.put_vertices.Given as goal
 
 abbrev pub invariant-loop-v : goal.invariant-loop-v

@@ -2,9 +2,9 @@ use Rattle.std.proofs.Common.{◌≡◌, ◌+◌, ◌<◌, ◌≤◌, [], length
 use Rattle.std.specs.List.{flat_map}
 use Rattle.std.proofs.lemmas.List.{take_all}
 use Rattle.marker.specs.Records.{chain_record}
-use Rattle.writer.specs.Put.{Wrote}
+use Rattle.marker.specs.Wrote.{Wrote}
 use Rattle.writer.specs.Family.{chains_of}
-use Rattle.writer.proofs.Putting.{one_more}
+use Rattle.marker.proofs.Writing.{one_more}
 use Rattle.writer.proofs.Chains.{chains_length, chain_here, chains_after, sum_after}
 use Rattle.writer.proofs.family.Family.put_chains.Goals as goal
 

@@ -1,7 +1,7 @@
 use Rattle.std.proofs.Common.{◌≡◌, ◌+◌, ◌-◌, ◌*◌, length, take, drop, sum}
 use Rattle.std.specs.List.{flat_map}
 use Rattle.marker.specs.Records.{chain_record}
-use Rattle.writer.specs.Put.{Wrote}
+use Rattle.marker.specs.Wrote.{Wrote}
 use Rattle.writer.specs.Family.{chains_of}
 use Rattle.writer.proofs.family.Family.put_chains.Given as goal
 
