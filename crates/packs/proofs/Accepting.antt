@@ -40,12 +40,12 @@ pub price_known : (n : ℕ) (pr : PriceKind) → price_numbered n ≡ Some pr �
 price_known n Count h = grind (arith, nat_tests)
 price_known n CountThenArea h = grind (arith, nat_tests)
 
-measure_back : (me : MeasureKind) → measure_numbered (measure_number me) ≡ Some me
+pub measure_back : (me : MeasureKind) → measure_numbered (measure_number me) ≡ Some me
 measure_back Segment = refl
 measure_back Strip = refl
 measure_back Area = refl
 
-price_back : (pr : PriceKind) → price_numbered (price_number pr) ≡ Some pr
+pub price_back : (pr : PriceKind) → price_numbered (price_number pr) ≡ Some pr
 price_back Count = refl
 price_back CountThenArea = refl
 

@@ -1,0 +1,27 @@
+// Reads a job pack from standard input and writes its key to standard output: the pack of its first least family.
+// A refusal is told on standard error, for standard output is bytes, and ends with status 1.
+#![tactic(auto)]
+
+use keys::key::key_pack;
+use std::io::{Read, Write};
+use std::process::ExitCode;
+
+// Writes the key of the job on standard input.
+fn key(rt: &HostRuntime) -> anyhow::Result<()> {
+    let heap = rt.alloc();
+    let mut bytes = Vec::new(heap);
+    rt.stdin().read_to_end(&mut bytes)?;
+    let pack = key_pack(heap, bytes.as_slice())?;
+    rt.stdout().write_all(pack.as_slice())?;
+    Ok(())
+}
+
+fn main(rt: HostRuntime) -> ExitCode {
+    match key(&rt) {
+        Ok(()) => ExitCode::SUCCESS,
+        Err(error) => {
+            let _ = rt.eprintln(error);
+            ExitCode::FAILURE
+        }
+    }
+}

@@ -1,0 +1,3 @@
+pub mod ChainLists
+pub mod Octets
+pub mod Writing
