@@ -16,3 +16,5 @@ mod memory;
 mod outside;
 #[cfg(test)]
 mod refusals;
+#[cfg(test)]
+mod wrong;
