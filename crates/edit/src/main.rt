@@ -6,7 +6,6 @@ use drawings::drawing::DrawError;
 use edits::job::edit_job;
 use edits::script::{ScriptError, read_script};
 use edits::text::edits_text;
-use search::room::Room;
 use std::io::Read;
 use std::process::ExitCode;
 use std::{env, fs};
@@ -28,7 +27,7 @@ fn edit(rt: &HostRuntime) -> anyhow::Result<bool> {
         return Ok(false);
     }
     let edits = edits?;
-    let edited = edit_job(heap, bytes.as_slice(), edits.as_slice(), Room::FULL);
+    let edited = edit_job(heap, bytes.as_slice(), edits.as_slice());
     if let Err(DrawError::Refused(fault)) = edited {
         println!(rt; "{fault}")?;
         return Ok(false);

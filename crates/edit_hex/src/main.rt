@@ -6,7 +6,6 @@ use edits::job::edit_job;
 use edits::script::{ScriptError, read_script};
 use edits::text::edits_text;
 use hexadecimal::unhex;
-use search::room::Room;
 use std::alloc::Global;
 use std::io::{BufRead, BufReader};
 
@@ -17,7 +16,7 @@ fn edited(heap: Global, bytes: &[u8], script: &[u8]) -> anyhow::Result<String> {
         return Ok(format!(in heap; "{error}\n")?);
     }
     let edits = edits?;
-    let edited = edit_job(heap, bytes, edits.as_slice(), Room::FULL);
+    let edited = edit_job(heap, bytes, edits.as_slice());
     if let Err(DrawError::Refused(fault)) = edited {
         return Ok(format!(in heap; "{fault}\n")?);
     }

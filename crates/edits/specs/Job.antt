@@ -20,6 +20,10 @@ job_settings j = opened (length j.vertices) j.levels (measure_largest j.measure)
 abbrev pub answers_of : Edited → List (Answer (ℕ × ℕ))
 answers_of e = vec_items e.answers
 
+-- The memory that edits are lent: room for 256 vertices and 8 levels.
+abbrev pub edit_room : Room
+edit_room = record { grades = 65536; prices = 524288; stays = 256 }
+
 -- The memory that a single draw is lent.
 abbrev pub draw_room : Room
 draw_room = record { grades = 1600; prices = 4000; stays = 40 }

@@ -5,7 +5,7 @@ ghost use Rattle.packs.specs.Kind.{measure_largest};
 ghost use Rattle.marker.specs.Pack.{measure_says};
 ghost use Rattle.sheets.specs.Settings.{opened};
 ghost use Rattle.edits.specs.Perform.{performed_numbered, Gives, EachLeastPriced};
-ghost use Rattle.edits.specs.Job.{answers_of, Edits, draw_room};
+ghost use Rattle.edits.specs.Job.{answers_of, Edits, edit_room, draw_room};
 ghost use Rattle.edits.specs.declared.script.Edit.TheVariants.{Draw};
 
 use crate::perform::Desk;
@@ -69,8 +69,8 @@ fn edit_placed(
     })
 }
 
-// Opens a sheet with the job of a pack and tries edits on it; or answers the reader's fault, or that memory ran out.
-pub fn edit_job(heap: Global, bytes: &[u8], edits: &[Edit], room: Room) -> Result<Edited, DrawError>
+// Opens a sheet with the job of a pack and tries edits on it in so much memory; or answers the reader's fault, or that memory ran out.
+fn edit_within(heap: Global, bytes: &[u8], edits: &[Edit], room: Room) -> Result<Edited, DrawError>
     ensures { Edits bytes.now edits.now room result }
 {
     let mut place = Place::blank();
@@ -78,9 +78,17 @@ pub fn edit_job(heap: Global, bytes: &[u8], edits: &[Edit], room: Room) -> Resul
     edit_placed(heap, &place, job, edits, room)
 }
 
+// Opens a sheet with the job of a pack and tries edits on it, in memory for 256 vertices and 8 levels; or answers the reader's fault, or that
+// memory ran out.
+pub fn edit_job(heap: Global, bytes: &[u8], edits: &[Edit]) -> Result<Edited, DrawError>
+    ensures { Edits bytes.now edits.now edit_room result }
+{
+    edit_within(heap, bytes, edits, Room::FULL)
+}
+
 // Opens a sheet with the job of a pack and draws its line, in memory for a line of 40 vertices.
 pub fn draw_job(heap: Global, bytes: &[u8]) -> Result<Edited, DrawError>
     ensures { Edits bytes.now (Draw ∷ []) draw_room result }
 {
-    edit_job(heap, bytes, &[Edit::Draw], DRAW_ROOM)
+    edit_within(heap, bytes, &[Edit::Draw], DRAW_ROOM)
 }

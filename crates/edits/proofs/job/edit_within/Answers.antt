@@ -1,6 +1,6 @@
 use Rattle.drawings.proofs.Jobs.{job_read}
 use Rattle.edits.proofs.Jobs.{edited}
-use Rattle.edits.proofs.job.edit_job.Goals as goal
+use Rattle.edits.proofs.job.edit_within.Goals as goal
 
 pub edit_placed-requires : goal.edit_placed-requires
 edit_placed-requires c =
