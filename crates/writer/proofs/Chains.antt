@@ -1,11 +1,13 @@
 -- Chains that lie end to end, one after another. Assumes nothing.
-use Rattle.std.proofs.Common.{◌≡◌, ℕ, suc, ◌+◌, ◌<◌, List, [], ◌∷◌, length, get_or, take, drop, sum, sym, refl, ap, ◌∙◌, arith, length-append, length-take-le, length-drop, ◌*◌}
-use Rattle.std.proofs.lemmas.List.{drop_more}
+use Rattle.std.proofs.Common.{ap₂, map, ◌≤◌, All, ◌≡◌, ℕ, suc, ◌+◌, ◌<◌, List, [], ◌∷◌, length, get_or, take, drop, sum, sym, refl, ap, ◌∙◌, arith, length-append, length-take-le, length-drop, ◌*◌}
+use Rattle.std.proofs.lemmas.List.{drop_more, take_at, drop_at}
+use Rattle.std.proofs.lemmas.List.Elements.{All-take, All-drop}
 use Rattle.std.proofs.lemmas.List.Sums.{sum_by-drop_more, sum_by-cons}
-use Rattle.std.specs.List.{flat_map}
+use Rattle.std.specs.List.{flat_map, concat, AllByRecursion}
 use Rattle.packs.specs.Bytes.{le}
 use Rattle.packs.proofs.ItemTrips.{length_joined}
 use Rattle.marker.specs.Records.{chain_record}
+use Rattle.marker.specs.Reader.{ChainFits}
 use Rattle.writer.specs.Family.{chains_of}
 
 pub chains_length : (counts numbers : List ℕ) → length (chains_of counts numbers) ≡ length counts
@@ -45,3 +47,25 @@ joined_length (c ∷ cs) numbers e =
     let front = length-take-le c numbers (omega (arith, e, more)) in
     length-append (chain_record (take c numbers)) (flat_map chain_record (chains_of cs (drop c numbers))) ∙
     omega (arith, chain_length (take c numbers), rest, front, length-drop c numbers, e, more)
+
+-- chains that are joined lie end to end
+pub chains_back : (chains : List (List ℕ)) → chains_of (map length chains) (concat chains) ≡ chains
+chains_back [] = refl
+chains_back (c ∷ cs) =
+    ap₂ (λ x xs. x ∷ chains_of (map length cs) xs) (take_at c (concat cs) (length c) refl) (drop_at c (concat cs) (length c) refl) ∙ ap (λ xs. c ∷ xs) (chains_back cs)
+
+pub sum_lengths : (chains : List (List ℕ)) → sum (map length chains) ≡ length (concat chains)
+sum_lengths [] = refl
+sum_lengths (c ∷ cs) = sum_by-cons (λ x. x) (length c) (map length cs) ∙ ap (λ n. length c + n) (sum_lengths cs) ∙ sym (length-append c (concat cs))
+
+-- chains whose counts fit are held by records
+pub chains_fit : (n : ℕ) (counts numbers : List ℕ) → sum counts ≡ length numbers → ((i : ℕ) → i < length counts → (2 ≤ get_or counts i 0) × (get_or counts i 0 ≤ n)) →
+    All (λ v. v < 65536) numbers → AllByRecursion (ChainFits n) (chains_of counts numbers)
+chains_fit n [] numbers e each small = tt
+chains_fit n (c ∷ cs) numbers e each small =
+    let more : sum (c ∷ cs) ≡ c + sum cs = sum_by-cons (λ x. x) c cs in
+    let front = length-take-le c numbers (omega (arith, e, more)) in
+    let first = each 0 (omega arith) in (
+      (omega arith, omega arith, All-take (λ v. v < 65536) c numbers small),
+      chains_fit n cs (drop c numbers) (omega (arith, e, more, length-drop c numbers)) (λ i h. each (suc i) (omega arith)) (All-drop (λ v. v < 65536) c numbers small),
+    )

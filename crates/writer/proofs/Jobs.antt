@@ -1,40 +1,35 @@
--- The pack of a job: its length, its numbers, and reading it back. Assumes nothing.
-use Rattle.std.proofs.Common.{◌≡◌, ℕ, ◌+◌, ◌*◌, ◌<◌, ◌≤◌, leb, List, [], ◌∷◌, ◌++◌, length, take, drop, is_ok, Ok, Err, sym, refl, ap, ap₂, subst, ◌∙◌, arith, length-append}
-use Rattle.std.proofs.Math.Nat.{zero-add}
+-- The pack of a job: its numbers, its length, and when there is room for it. Assumes nothing.
+use Rattle.std.proofs.Common.{◌≡◌, ℕ, ◌+◌, ◌*◌, ◌<◌, ◌≤◌, leb, List, [], ◌∷◌, ◌++◌, length, is_ok, Ok, Err, sym, refl, ap, ap₂, subst, ◌∙◌, arith, length-append}
 use Rattle.std.specs.List.{flat_map}
-use Rattle.std.proofs.lemmas.List.{take_at}
-use Rattle.std.proofs.lemmas.Bool.{cond-true, cond-false, and_parts, leb-true, le-leb, lt-leb}
+use Rattle.std.proofs.lemmas.Bool.{cond-true, cond-false, le-leb, lt-leb}
 use Rattle.lines.specs.Fault.{fault, then}
-use Rattle.lines.specs.Line.{Lawful}
 use Rattle.lines.specs.Level.{LawfulLevels, judged_count, judged_levels}
 use Rattle.lines.specs.declared.fault.Cause.TheVariants.{Unknown, Memory}
 use Rattle.lines.specs.declared.fault.Layer.TheVariants.{Pack}
 use Rattle.lines.specs.declared.level.Level.{Level}
 use Rattle.lines.specs.declared.vertex.Vertex.{Vertex}
-use Rattle.lines.proofs.Levels.{passed, judged_means}
-use Rattle.packs.specs.Bytes.{Octets}
+use Rattle.lines.proofs.Levels.{judged_means}
+use Rattle.marker.proofs.Limits.{count_means}
 use Rattle.packs.specs.Record.{a_record}
 use Rattle.packs.specs.Kind.{measure_number, price_number, measure_numbered, price_numbered, measure_largest}
-use Rattle.packs.specs.Job.{LawfulContent, vertex_bytes, level_bytes, encoded}
+use Rattle.packs.specs.Job.{vertex_bytes, level_bytes, encoded}
 use Rattle.packs.specs.declared.kind.MeasureKind.{MeasureKind}
 use Rattle.packs.specs.declared.kind.PriceKind.{PriceKind}
-use Rattle.packs.proofs.Accepting.{measure_known, price_known, accepts_jobs}
+use Rattle.packs.proofs.Accepting.{measure_known, price_known}
 use Rattle.packs.proofs.Answered.{then_ok, known_ok, same_answer}
 use Rattle.packs.proofs.ItemTrips.{length_joined}
-use Rattle.packs.proofs.LittleEndian.{octets_take}
-use Rattle.marker.specs.Wrote.{Wrote}
 use Rattle.writer.specs.Put.{job_records}
-use Rattle.writer.specs.Job.{content, judged_job, fitting, job_pack, JobReadBack}
+use Rattle.writer.specs.Job.{content, judged_job, fitting, job_pack}
 
 module _ (measure price : ℕ) (ls : List Level) (k : MeasureKind × PriceKind) (judged : judged_job measure price ls ≡ Ok k) where
   -- what was judged
-  record Judged : Type 0 where
-    same_measure : measure_number k.0 ≡ measure
-    same_price : price_number k.1 ≡ price
-    count : (1 ≤ length ls) × (length ls ≤ 8)
-    levels_lawful : LawfulLevels (measure_largest k.0) ls
+  pub record Judged : Type 0 where
+    pub same_measure : measure_number k.0 ≡ measure
+    pub same_price : price_number k.1 ≡ price
+    pub count : (1 ≤ length ls) × (length ls ≤ 8)
+    pub levels_lawful : LawfulLevels (measure_largest k.0) ls
 
-  what_judged : Judged
+  pub what_judged : Judged
   what_judged =
       let p = then_ok (judged_count Pack (length ls)) _ k judged in
       let q = known_ok (measure_numbered measure) (fault Unknown Pack 0) _ k p.2 in
@@ -43,11 +38,10 @@ module _ (measure price : ℕ) (ls : List Level) (k : MeasureKind × PriceKind) 
       let same : (q.0, r.0) ≡ k = same_answer _ _ t.2 in
       let me = ap (λ (z : MeasureKind × PriceKind). z.0) same in
       let pr = ap (λ (z : MeasureKind × PriceKind). z.1) same in
-      let counted = and_parts _ _ (passed _ _ _ (ap is_ok p.1)).0 in
       record {
         same_measure = ap measure_number (sym me) ∙ sym (measure_known measure q.0 q.1);
         same_price = ap price_number (sym pr) ∙ sym (price_known price r.0 r.1);
-        count = (leb-true _ _ counted.0, leb-true _ _ counted.1);
+        count = (count_means Pack (length ls)).0 p.1;
         levels_lawful = subst (λ m. LawfulLevels (measure_largest m) ls) me ((judged_means (measure_largest q.0) Pack ls).0 (ap is_ok t.1));
       }
 
@@ -74,19 +68,3 @@ module _ (measure price : ℕ) (ls : List Level) (k : MeasureKind × PriceKind) 
     fits room h =
         let pack = encoded (content k.0 k.1 vs ls) in
         ap (λ r. then r (λ z. fitting room (encoded (content z.0 z.1 vs ls)))) judged ∙ cond-true (leb (length pack) room) _ _ (le-leb (length pack) room (subst (λ n. n ≤ room) (sym pack_length) h))
-
-    -- reading what was written
-    pub read_back : Lawful vs → (before after : List ℕ) (size : ℕ) → Octets after → Wrote 0 before after (job_records measure price vs ls) size → JobReadBack measure price vs ls after size
-    read_back line before after size octets wrote =
-        let j = content k.0 k.1 vs ls in
-        let front : take size after ≡ encoded j =
-        ap (take size) (wrote.bytes) ∙ take_at (job_records measure price vs ls) (drop size before) size (sym (wrote.ends ∙ zero-add (length (job_records measure price vs ls)))) ∙ records in
-        let lawful : LawfulContent j = record { line = line; count = what_judged.count; levels_lawful = what_judged.levels_lawful } in
-        record {
-          job = j;
-          read = ((accepts_jobs (take size after) (octets_take size after octets)).exactly j).1 (lawful, front);
-          same_measure = what_judged.same_measure;
-          same_price = what_judged.same_price;
-          same_line = refl;
-          same_levels = refl;
-        }

@@ -1,14 +1,16 @@
 -- Writing the pack of a family: when it is refused, and what stands in the bytes. Assumes nothing.
-use Rattle.std.specs.Prelude.{◌≡◌, ℕ, ◌+◌, ◌<◌, ◌≤◌, cond, ◌&&◌, List, [], ◌∷◌, ◌++◌, length, take, drop, sum, Ok, Err, Result, ◌==◌, nat_le, slice_index}
+use Rattle.std.specs.Prelude.{◌≡◌, ℕ, ◌+◌, ◌*◌, ◌<◌, ◌≤◌, cond, ◌&&◌, List, [], ◌∷◌, ◌++◌, length, take, drop, sum, Ok, Err, Result, ◌==◌, nat_le, slice_index}
 use Rattle.lines.specs.Fault.{fault, then}
 use Rattle.lines.specs.declared.fault.Fault.{Fault}
 use Rattle.lines.specs.declared.fault.Cause.TheVariants.{WrongLength}
 use Rattle.lines.specs.declared.fault.Layer.TheVariants.{Pack}
 use Rattle.lines.specs.declared.level.Level.{Level}
 use Rattle.lines.specs.declared.vertex.Vertex.{Vertex}
-use Rattle.packs.specs.Job.{encoded}
+use Rattle.packs.specs.Kind.{measure_number, price_number}
+use Rattle.packs.specs.Job.{Content, encoded, head_in}
 use Rattle.marker.specs.Records.{family_records}
-use Rattle.writer.specs.Job.{content, judged_job, fitting}
+use Rattle.marker.specs.Reader.{family_in}
+use Rattle.writer.specs.Job.{content, judged_job, fitting, job_size, WritableJob}
 use Rattle.writer.specs.declared.family.Family.{Family}
 
 -- The chains that lie end to end, each as long as its count.
@@ -41,3 +43,23 @@ family_pack measure price vs ls f room =
     then (judged_job measure price ls) (λ k.
     then (judged_counts (length vs) (length ls) f.counts.now (length f.chains.now)) (λ _.
     fitting room (encoded (content k.0 k.1 vs ls) ++ records_of f)))
+
+-- How many bytes the pack of a family takes, for n vertices, m levels and so many chain vertices.
+abbrev pub family_size : ℕ → ℕ → ℕ → ℕ
+family_size n m vertices = job_size n m + (6 * m + 2 * vertices) + 18
+
+-- A family that can be written: its job can be, its counts fit, and there is room for its pack.
+pub record WritableFamily (measure price n : ℕ) (ls : List Level) (f : Family) (room : ℕ) : Type 0 where
+  pub job : WritableJob measure price ls (family_size n (length ls) (length f.chains.now)) room
+  pub counts_fit : CountsFit n (length ls) f.counts.now (length f.chains.now)
+
+-- The bytes are read as the job with these numbers of a measure and a price, these vertices and these levels, and then as these chains and this total.
+pub record ReadAsFamily (measure price : ℕ) (vs : List Vertex) (ls : List Level) (chains : List (List ℕ)) (total : ℕ × ℕ) (bs : List ℕ) : Type 0 where
+  pub job : Content
+  pub end : ℕ
+  pub read : head_in bs ≡ Ok (job, end)
+  pub same_measure : measure_number job.measure ≡ measure
+  pub same_price : price_number job.price ≡ price
+  pub same_line : job.vertices ≡ vs
+  pub same_levels : job.levels ≡ ls
+  pub same_chains : family_in (length vs) (length ls) (drop end bs) ≡ Ok (chains, total)

@@ -1,7 +1,7 @@
 -- Writing the pack of a job: when it is refused, and what stands in the bytes. Assumes nothing.
-use Rattle.std.specs.Prelude.{◌≡◌, ℕ, cond, List, ◌++◌, length, take, drop, Ok, Err, Result, nat_le}
+use Rattle.std.specs.Prelude.{◌≡◌, ℕ, ◌+◌, ◌*◌, ◌≤◌, cond, List, ◌++◌, length, drop, Ok, Err, Result, nat_le}
 use Rattle.lines.specs.Fault.{fault, then}
-use Rattle.lines.specs.Level.{judged_count, judged_levels}
+use Rattle.lines.specs.Level.{LawfulLevels, judged_count, judged_levels}
 use Rattle.lines.specs.declared.fault.Fault.{Fault}
 use Rattle.lines.specs.declared.fault.Cause.TheVariants.{Unknown, Memory}
 use Rattle.lines.specs.declared.fault.Layer.TheVariants.{Pack}
@@ -42,11 +42,30 @@ abbrev pub bytes_after : Result (List ℕ) Fault → List ℕ → List ℕ
 bytes_after (Ok pack) before = pack ++ drop (length pack) before
 bytes_after (Err f) before = before
 
--- Reading the first `size` bytes gives back the job that was written.
-pub record JobReadBack (measure price : ℕ) (vs : List Vertex) (ls : List Level) (bytes : List ℕ) (size : ℕ) : Type 0 where
+-- How many bytes the pack of a job of n vertices and m levels takes.
+abbrev pub job_size : ℕ → ℕ → ℕ
+job_size n m = 20 + 4 * n + 8 * m
+
+-- A job that can be written: 1 to 8 levels, the numbers of a measure and a price, levels that are lawful under the measure, and room for a pack of this size.
+pub record WritableJob (measure price : ℕ) (ls : List Level) (size room : ℕ) : Type 0 where
+  pub count : (1 ≤ length ls) × (length ls ≤ 8)
+  pub measure_kind : MeasureKind
+  pub price_kind : PriceKind
+  pub same_measure : measure_number measure_kind ≡ measure
+  pub same_price : price_number price_kind ≡ price
+  pub levels_lawful : LawfulLevels (measure_largest measure_kind) ls
+  pub room_for : size ≤ room
+
+-- The bytes are read as the job with these numbers of a measure and a price, these vertices and these levels.
+pub record ReadAsJob (measure price : ℕ) (vs : List Vertex) (ls : List Level) (bs : List ℕ) : Type 0 where
   pub job : Content
-  pub read : job_in (take size bytes) ≡ Ok job
+  pub read : job_in bs ≡ Ok job
   pub same_measure : measure_number job.measure ≡ measure
   pub same_price : price_number job.price ≡ price
   pub same_line : job.vertices ≡ vs
   pub same_levels : job.levels ≡ ls
+
+-- Exactly the bytes bs are written, and the rest is as before.
+pub record Writes (bs before after : List ℕ) (answer : Result ℕ Fault) : Type 0 where
+  pub answered : answer ≡ Ok (length bs)
+  pub bytes : after ≡ bs ++ drop (length bs) before

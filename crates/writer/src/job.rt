@@ -1,6 +1,7 @@
 // Writing the pack of a job.
-ghost use Rattle.std.specs.Prelude.{◌≡◌, length, IfOk};
-ghost use Rattle.writer.specs.Job.{judged_job, job_pack, size_answered, bytes_after, JobReadBack};
+ghost use Rattle.std.specs.Prelude.{◌≡◌, ℕ, ◌≤◌, Decides, List, length, take, is_ok, IfOk};
+ghost use Rattle.packs.specs.Bytes.{Octets};
+ghost use Rattle.writer.specs.Job.{judged_job, job_pack, size_answered, bytes_after, job_size, WritableJob, ReadAsJob, Writes};
 
 use crate::put::put_job;
 use lines::fault::{Cause, Fault, Layer};
@@ -37,7 +38,9 @@ pub fn write_job(
 ) -> Result<usize, Fault>
     ensures answer { result ≡ size_answered (job_pack measure price line.now.vertices.now levels.now (length bytes.old)) }
     ensures bytes_after { bytes.new ≡ bytes_after (job_pack measure price line.now.vertices.now levels.now (length bytes.old)) bytes.old }
-    ensures reads_back { IfOk result (JobReadBack measure price line.now.vertices.now levels.now bytes.new) }
+    ensures accepts_exactly { Decides (is_ok result) (WritableJob measure price levels.now (job_size (length line.now.vertices.now) (length levels.now)) (length bytes.old)) }
+    ensures reads_back { IfOk result (λ size. ReadAsJob measure price line.now.vertices.now levels.now (take size bytes.new)) }
+    ensures writes_what_was_read { (bs : List ℕ) → Octets bs → ReadAsJob measure price line.now.vertices.now levels.now bs → length bs ≤ length bytes.old → Writes bs bytes.old bytes.new result }
 {
     check_job(measure, price, levels)?;
     if 20 + 4 * line.count() + 8 * levels.len() > bytes.len() {

@@ -5,4 +5,6 @@ pub mod family;
 pub mod job;
 mod put;
 #[cfg(test)]
+mod round_trips;
+#[cfg(test)]
 mod tests;

@@ -4,6 +4,7 @@ ghost use Rattle.std.specs.List.{flat_map};
 ghost use Rattle.packs.specs.Bytes.{le};
 ghost use Rattle.packs.specs.Record.{a_record};
 ghost use Rattle.marker.specs.Records.{chain_record, total_record};
+ghost use Rattle.marker.specs.Reader.{FormFits};
 ghost use Rattle.packs.specs.Job.{vertex_bytes, level_bytes};
 ghost use Rattle.marker.specs.Wrote.{Wrote};
 ghost use Rattle.writer.specs.Put.{job_records};
@@ -177,6 +178,7 @@ pub(crate) fn put_total_record(bytes: &mut [u8], at: usize, total: (u32, u64)) -
     requires { at + 18 ≤ length bytes.old }
     ensures wrote { Wrote at bytes.old bytes.new (total_record total) result }
     ensures end { result ≡ at + 18 }
+    ensures narrow { FormFits total }
 {
     let (first, second) = total;
     let at = put_header(bytes, at, 12, 5);

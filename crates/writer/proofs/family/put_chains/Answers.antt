@@ -6,16 +6,16 @@ use Rattle.marker.specs.Wrote.{Wrote}
 use Rattle.writer.specs.Family.{chains_of}
 use Rattle.marker.proofs.Writing.{one_more}
 use Rattle.writer.proofs.Chains.{chains_length, chain_here, chains_after, sum_after}
-use Rattle.writer.proofs.family.Family.put_chains.Goals as goal
+use Rattle.writer.proofs.family.put_chains.Goals as goal
 
 pub loop-count-preserved : goal.loop-count-preserved
 loop-count-preserved c =
-    let counts = c.args.self.now.counts.now in
-    let all = chains_of counts c.args.self.now.chains.now in
+    let counts = c.args.counts.now in
+    let all = chains_of counts c.args.chains.now in
     let i = c.loop-count.count-index in
     let v = c.loop-count.invariant in
     let h : i < length counts = search rules in
-    let g : i < length all = subst (λ n. i < n) (sym (chains_length counts c.args.self.now.chains.now)) h in
+    let g : i < length all = subst (λ n. i < n) (sym (chains_length counts c.args.chains.now)) h in
     let numbers = c.loop-count.numbers.now in
     let n = get_or counts i 0 in
     let front : c.split_at.result.0.now ≡ take n numbers = search rules in
@@ -32,7 +32,7 @@ loop-count-preserved c =
 
 pub returns-clause-wrote : goal.returns-clause-wrote
 returns-clause-wrote c =
-    let counts = c.args.self.now.counts.now in
-    let all = chains_of counts c.args.self.now.chains.now in
-    let whole = take_all c.loop-count.count-index all (subst (λ n. n ≤ c.loop-count.count-index) (sym (chains_length counts c.args.self.now.chains.now)) (search rules)) in
+    let counts = c.args.counts.now in
+    let all = chains_of counts c.args.chains.now in
+    let whole = take_all c.loop-count.count-index all (subst (λ n. n ≤ c.loop-count.count-index) (sym (chains_length counts c.args.chains.now)) (search rules)) in
     subst (λ xs. Wrote c.args.at c.args.bytes.now c.loop-count.bytes (flat_map chain_record xs) c.loop-count.end) whole c.loop-count.invariant.0
