@@ -1,3 +1,4 @@
 pub mod LineTrips
 pub mod NumberTrips
 pub mod WordTrips
+pub mod SignedTrips

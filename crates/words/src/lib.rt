@@ -1,10 +1,12 @@
-// The lines of a text, the words of a line, and the whole number that a word writes.
+// The lines of a text, the words of a line, and the whole numbers that words write.
 #![tactic(auto)]
 
-ghost use Rattle.std.specs.Prelude.{◌≡◌, ℕ, ◌≤◌, List, map, Some, IfOk, decimal};
+ghost use Rattle.std.specs.Prelude.{◌≡◌, ℕ, ◌≤◌, List, map, ℤ, Some, IfOk, decimal, unsigned_abs};
+ghost use Rattle.std.specs.Fmt.{signed_decimal};
 ghost use Rattle.std.specs.List.{AllByRecursion, join_with_byte};
 ghost use Rattle.words.specs.Lines.{lines_of, each_with, IsLine, ReadsLines};
 ghost use Rattle.words.specs.Numbers.{number_of, ReadsNumber};
+ghost use Rattle.words.specs.Signed.{signed_of, ReadsSigned};
 ghost use Rattle.words.specs.Words.{is_blank, words_of, IsWord, ReadsWords};
 
 #[cfg(test)]
@@ -51,4 +53,19 @@ pub fn whole_number(word: &[u8]) -> Option<u32>
         return None;
     }
     str::from_utf8(word).ok()?.parse().ok()
+}
+
+// The whole number that a word writes in decimal digits, with or without a minus in front, no further from 0 than the largest u32; none for any
+// other word.
+#[tactic(auto, using(crate::proofs::SignedTrips::signed_back, crate::proofs::SignedTrips::signed_reads))]
+pub fn signed_number(word: &[u8]) -> Option<i64>
+    ensures answer { result ≡ signed_of word.now }
+    ensures reads_exactly_what_is_written { ReadsSigned word.now result }
+    ensures gives_number_back { (z : ℤ) → unsigned_abs z ≤ 4294967295 → word.now ≡ signed_decimal z → result ≡ Some z }
+{
+    if word.first() == Some(&b'-') {
+        whole_number(&word[1..]).map(|n| -i64::from(n))
+    } else {
+        whole_number(word).map(|n| i64::from(n))
+    }
 }

@@ -1,5 +1,5 @@
 // Lines, words and numbers of short texts.
-use crate::{lines, whole_number, words};
+use crate::{lines, signed_number, whole_number, words};
 use std::alloc::Global;
 use std::process::Abort;
 use std::test::Fail;
@@ -56,6 +56,37 @@ fn words_that_are_no_number(rt: HostRuntime) -> Result<(), Fail> {
         b"\xb9",
     ] {
         assert!(rt; whole_number(word).is_none());
+    }
+    Ok(())
+}
+
+#[test]
+fn numbers_with_a_sign(rt: HostRuntime) -> Result<(), Fail> {
+    assert_eq!(rt; signed_number(b"7"), Some(7));
+    assert_eq!(rt; signed_number(b"-7"), Some(-7));
+    assert_eq!(rt; signed_number(b"-007"), Some(-7));
+    assert_eq!(rt; signed_number(b"-0"), Some(0));
+    assert_eq!(rt; signed_number(b"4294967295"), Some(4_294_967_295));
+    assert_eq!(rt; signed_number(b"-4294967295"), Some(-4_294_967_295));
+    Ok(())
+}
+
+#[test]
+fn words_that_are_no_signed_number(rt: HostRuntime) -> Result<(), Fail> {
+    for word in [
+        b"".as_slice(),
+        b"-",
+        b"--1",
+        b"+5",
+        b"-+5",
+        b"0-5",
+        b"1.5",
+        b"1e3",
+        b"- 1",
+        b"4294967296",
+        b"-4294967296",
+    ] {
+        assert!(rt; signed_number(word).is_none());
     }
     Ok(())
 }
