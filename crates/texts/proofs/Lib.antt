@@ -1,0 +1,4 @@
+pub mod Vertices
+pub mod Steps
+pub mod Fine
+pub mod Sound

@@ -1,0 +1,3 @@
+pub mod Error
+pub mod Statement
+pub mod Draft

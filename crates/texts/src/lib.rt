@@ -1,0 +1,6 @@
+// The text form of a job: its pack is made of a text, and a text of a pack.
+#![tactic(auto)]
+
+mod draft;
+pub mod error;
+mod statement;
