@@ -2,3 +2,4 @@ pub mod Vertices
 pub mod Steps
 pub mod Fine
 pub mod Sound
+pub mod Written

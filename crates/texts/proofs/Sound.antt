@@ -16,9 +16,9 @@ use Rattle.packs.specs.declared.kind.MeasureKind.{MeasureKind}
 use Rattle.packs.specs.declared.kind.PriceKind.{PriceKind}
 use Rattle.words.specs.Lines.{lines_of}
 use Rattle.writer.specs.Job.{content}
-use Rattle.texts.specs.Error.{at_line}
+use Rattle.texts.specs.Error.{onward, at_line}
 use Rattle.texts.specs.Statement.{statements_in}
-use Rattle.texts.specs.Draft.{Said, nothing, level_line, no_level, with_measure, with_price, rises, with_level, with_vertex, taken, all_taken, all_said, levels_of, none_above, whole, job_said}
+use Rattle.texts.specs.Draft.{Said, nothing, numbered, no_level, with_measure, with_price, rises, with_level, with_vertex, taken, all_taken, all_said, levels_of, none_above, whole, job_said}
 use Rattle.texts.specs.declared.draft.LevelLine.{LevelLine}
 use Rattle.texts.specs.declared.error.Expected.TheVariants.{RisingTolerance, FewLevels, FewVertices, SomeMeasure, SomePrice, SomeLevel, TwoVertices}
 use Rattle.texts.specs.declared.error.TextError.TheVariants.{Line}
@@ -60,21 +60,21 @@ below a b h = grind (arith, nat_tests)
 rises_above : (ls : List LevelLine) (l : JobLevel) → rises ls l ≡ true → 0 < length ls → (get_or ls (length ls - 1) no_level).level.tolerance < l.tolerance
 rises_above ls l h z = grind (arith, nat_tests)
 
-more_rising : (n : ℕ) (ls : List LevelLine) (l : JobLevel) → rises ls l ≡ true → Rising ls → Rising (ls ++ (level_line n l ∷ []))
+more_rising : (n : ℕ) (ls : List LevelLine) (l : JobLevel) → rises ls l ≡ true → Rising ls → Rising (ls ++ (numbered n l ∷ []))
 more_rising n ls l h r i z =
-    let k = length-append ls (level_line n l ∷ []) in
-    let e = get_or_append_left ls (level_line n l ∷ []) no_level i (omega (arith, k)) in
+    let k = length-append ls (numbered n l ∷ []) in
+    let e = get_or_append_left ls (numbered n l ∷ []) no_level i (omega (arith, k)) in
     step e (ltb (suc i) (length ls)) refl (omega (arith, k))
   where
-    step : get_or (ls ++ (level_line n l ∷ [])) i no_level ≡ get_or ls i no_level → (b : Bool) → ltb (suc i) (length ls) ≡ b → suc i ≤ length ls →
-        (get_or (ls ++ (level_line n l ∷ [])) i no_level).level.tolerance < (get_or (ls ++ (level_line n l ∷ [])) (suc i) no_level).level.tolerance
+    step : get_or (ls ++ (numbered n l ∷ [])) i no_level ≡ get_or ls i no_level → (b : Bool) → ltb (suc i) (length ls) ≡ b → suc i ≤ length ls →
+        (get_or (ls ++ (numbered n l ∷ [])) i no_level).level.tolerance < (get_or (ls ++ (numbered n l ∷ [])) (suc i) no_level).level.tolerance
     step e true t b =
-        let f = get_or_append_left ls (level_line n l ∷ []) no_level (suc i) (below _ _ t) in
+        let f = get_or_append_left ls (numbered n l ∷ []) no_level (suc i) (below _ _ t) in
         rw (e, f) (r i (below _ _ t))
     step e false t b =
         let q : length ls ≡ suc i = grind (arith, nat_tests) in
         let f : length ls - 1 ≡ i = omega arith in
-        let g : get_or (ls ++ (level_line n l ∷ [])) (suc i) no_level ≡ level_line n l = ap (λ m. get_or (ls ++ (level_line n l ∷ [])) m no_level) (sym q) ∙ get_or-append_seam ls (level_line n l) [] no_level in
+        let g : get_or (ls ++ (numbered n l ∷ [])) (suc i) no_level ≡ numbered n l = ap (λ m. get_or (ls ++ (numbered n l ∷ [])) m no_level) (sym q) ∙ get_or-append_seam ls (numbered n l) [] no_level in
         let a : (get_or ls (length ls - 1) no_level).level.tolerance < l.tolerance = rises_above ls l h (omega arith) in
         rw (e, g) (subst (λ m. (get_or ls m no_level).level.tolerance < l.tolerance) f a)
 
@@ -83,11 +83,11 @@ level_sound n d e l f s h =
     let p = passed (ltb (length d.levels) 8) _ FewLevels e h in
     let q = passed (rises d.levels l) _ RisingTolerance e p.1 in
     let few : length d.levels < 8 = below _ _ p.0 in
-    let k = length-append d.levels (level_line n l ∷ []) in
+    let k = length-append d.levels (numbered n l ∷ []) in
     subst Sound (same _ e q.1) (record {
         in_range = s.in_range;
         few_vertices = s.few_vertices;
-        weighted = All-push Weighted d.levels (level_line n l) s.weighted f;
+        weighted = All-push Weighted d.levels (numbered n l) s.weighted f;
         rising = more_rising n d.levels l q.0 s.rising;
         few_levels = omega (arith, k, few);
       })
@@ -177,3 +177,10 @@ pub says_lawful : (text : List ℕ) (j : Content) → job_said text ≡ Ok j →
 says_lawful text j h =
     let p = onward_ok (all_said 1 (lines_of text) nothing) (whole (length (lines_of text) + 1)) j h in
     whole_sound (length (lines_of text) + 1) p.0 j (all_said_sound 1 (lines_of text) nothing p.0 nothing_sound p.1) p.2
+
+-- a text says what its lines say in whole
+pub says : (text : List ℕ) (lines : List (List ℕ)) (n : ℕ) (d : Said) (me : MeasureKind) (pr : PriceKind) (vs ws : List LineVertex) (ls ms : List JobLevel) → lines ≡ lines_of text → n ≡ length lines →
+    all_said 1 lines nothing ≡ Ok d → whole (n + 1) d ≡ Ok (content me pr vs ls) → ws ≡ vs → ms ≡ ls → job_said text ≡ Ok (content me pr ws ms)
+says text lines n d me pr vs ws ls ms e f s w v l =
+    ap (λ ts. onward (all_said 1 ts nothing) (whole (length ts + 1))) (sym e) ∙ ap (λ r. onward r (whole (length lines + 1))) s ∙ ap (λ k. whole (k + 1) d) (sym f) ∙ w ∙
+    ap (λ x. Ok (content me pr x ls)) (sym v) ∙ ap (λ x. Ok (content me pr ws x)) (sym l)

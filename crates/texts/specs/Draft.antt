@@ -35,9 +35,9 @@ said_in d = record { measure = d.measure; price = d.price; levels = vec_items d.
 abbrev pub nothing : Said
 nothing = record { measure = None; price = None; levels = []; vertices = [] }
 
--- A level with the line n that says it.
-abbrev pub level_line : ℕ → JobLevel → LevelLine
-level_line n l = record { number = n; level = l }
+-- The level that line n says.
+abbrev pub numbered : ℕ → JobLevel → LevelLine
+numbered n l = record { number = n; level = l }
 
 -- A first measure is taken; a second one is not.
 abbrev pub with_measure : Said → MeasureKind → Option MeasureKind → Result Said Expected
@@ -51,7 +51,7 @@ with_price d p (Some other) = Err OnePrice
 
 -- What stands for a level where there is none.
 abbrev pub no_level : LevelLine
-no_level = level_line 0 (level 0 0)
+no_level = numbered 0 (level 0 0)
 
 -- A level rises above the levels before: there are none, or its tolerance is above that of the last.
 abbrev pub rises : List LevelLine → JobLevel → Bool
@@ -60,7 +60,7 @@ rises ls l = length ls == 0 || nat_lt (slice_index_or ls (length ls - 1) no_leve
 -- One of up to 8 levels is taken if it rises above those before.
 abbrev pub with_level : Said → ℕ → JobLevel → Result Said Expected
 with_level d n l =
-    cond (nat_lt (length d.levels) 8) (cond (rises d.levels l) (Ok (record d { levels = d.levels ++ (level_line n l ∷ []) })) (Err RisingTolerance)) (Err FewLevels)
+    cond (nat_lt (length d.levels) 8) (cond (rises d.levels l) (Ok (record d { levels = d.levels ++ (numbered n l ∷ []) })) (Err RisingTolerance)) (Err FewLevels)
 
 -- One of up to 256 vertices is taken.
 abbrev pub with_vertex : Said → LineVertex → Result Said Expected

@@ -1,3 +1,5 @@
 pub mod Error
 pub mod Statement
 pub mod Draft
+pub mod Text
+pub mod Pack

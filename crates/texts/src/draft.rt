@@ -1,5 +1,5 @@
 // What the lines of a text say so far.
-ghost use Rattle.std.specs.Prelude.{◌≡◌, map, MatchResult};
+ghost use Rattle.std.specs.Prelude.{◌≡◌, map, IfOk, MatchResult};
 ghost use Rattle.texts.specs.Error.{at_line, Blamed};
 ghost use Rattle.texts.specs.Draft.{said_in, nothing, with_measure, with_price, with_level, with_vertex, taken, all_taken, all_said, levels_of, none_above, whole};
 ghost use Rattle.writer.specs.Job.{content};
@@ -96,6 +96,13 @@ impl Draft {
             self.take(n, *statement)?;
         }
         Ok(())
+    }
+
+    // The levels that are said, without their lines.
+    pub fn levels(&self, heap: Global) -> Result<Vec<Level>, AllocError>
+        ensures { IfOk result (λ levels. levels.items ≡ levels_of (said_in self.now)) }
+    {
+        self.levels.iter().map(|l| l.level).collect(heap)
     }
 
     // The measure and the price of a job that is said in whole, or the first thing that it lacks; `end` is the line after the last.

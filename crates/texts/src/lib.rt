@@ -3,4 +3,5 @@
 
 mod draft;
 pub mod error;
+pub mod pack;
 mod statement;

@@ -1,0 +1,29 @@
+-- Packing a text: what is answered for it. Assumes nothing.
+use Rattle.std.specs.Prelude.{◌≡◌, ℕ, List, Ok, Err, Result, Vec, vec_items}
+use Rattle.packs.specs.Job.{Content, LawfulContent, encoded, job_in}
+use Rattle.texts.specs.Error.{onward, Blamed}
+use Rattle.texts.specs.Draft.{job_said}
+use Rattle.texts.specs.Text.{job_text}
+use Rattle.texts.specs.declared.error.TextError.{TextError}
+use Rattle.texts.specs.declared.error.TextError.TheVariants.{Line, OutOfMemory}
+
+-- The pack of the job that a text says, or the first line that is at fault.
+abbrev pub pack_said : List ℕ → Result (List ℕ) TextError
+pack_said text = onward (job_said text) (λ j. Ok (encoded j))
+
+-- The text says a lawful job, and reading the pack gives that job.
+pub record SaysLawfully (text pack : List ℕ) : Type 0 where
+  pub job : Content
+  pub said : job_said text ≡ Ok job
+  pub lawful : LawfulContent job
+  pub read : job_in pack ≡ Ok job
+
+-- The pack is that of a job, unless memory runs out.
+abbrev pub PackedAs : {A : Type 0} → Content → Result (Vec ℕ A) TextError → Type 0
+PackedAs j (Ok pack) = vec_items pack ≡ encoded j
+PackedAs j (Err (Line n e)) = ⊥
+PackedAs j (Err OutOfMemory) = Unit {0}
+
+-- The text of a lawful job is packed as that job.
+abbrev pub GivesJobBack : {A : Type 0} → List ℕ → Result (Vec ℕ A) TextError → Type 0
+GivesJobBack text result = (j : Content) → LawfulContent j → text ≡ job_text j → PackedAs j result
