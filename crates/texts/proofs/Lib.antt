@@ -3,3 +3,5 @@ pub mod Steps
 pub mod Fine
 pub mod Sound
 pub mod Written
+pub mod LinesBack
+pub mod JobBack
