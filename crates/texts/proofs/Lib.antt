@@ -5,3 +5,4 @@ pub mod Sound
 pub mod Written
 pub mod LinesBack
 pub mod JobBack
+pub mod GivesBack

@@ -45,31 +45,31 @@ module _ (me : MeasureKind) (pr : PriceKind) (vs : List Vertex) (ls : List Level
   abbrev room : ℕ
   room = 20 + 4 * length vs + 8 * length ls
 
-  -- the same numbers and vertices, as a caller has them
-  module _ (m p : ℕ) (us : List Vertex) (n : ℕ) (em : m ≡ measure_number me) (ep : p ≡ price_number pr) (eu : us ≡ vs) (e : n ≡ room) where
-    pub packs : job_pack m p us ls n ≡ Ok (encoded (content me pr vs ls))
+  -- the same numbers, vertices and levels, as a caller has them
+  module _ (m p : ℕ) (us : List Vertex) (ks : List Level) (n : ℕ) (em : m ≡ measure_number me) (ep : p ≡ price_number pr) (eu : us ≡ vs) (el : ks ≡ ls) (e : n ≡ room) where
+    pub packs : job_pack m p us ks n ≡ Ok (encoded (content me pr vs ls))
     packs =
-        ap (λ k. job_pack k p us ls n) em ∙ ap (λ k. job_pack (measure_number me) k us ls n) ep ∙ ap (λ ws. job_pack (measure_number me) (price_number pr) ws ls n) eu ∙
+        ap (λ k. job_pack k p us ks n) em ∙ ap (λ k. job_pack (measure_number me) k us ks n) ep ∙ ap (λ ws. job_pack (measure_number me) (price_number pr) ws ks n) eu ∙ ap (λ xs. job_pack (measure_number me) (price_number pr) vs xs n) el ∙
         fits (measure_number me) (price_number pr) ls (me, pr) judged vs n (omega arith)
 
     -- and then the memory holds nothing else
-    pub fills : (before after : List ℕ) → length before ≡ n → after ≡ bytes_after (job_pack m p us ls (length before)) before → after ≡ encoded (content me pr vs ls)
+    pub fills : (before after : List ℕ) → length before ≡ n → after ≡ bytes_after (job_pack m p us ks (length before)) before → after ≡ encoded (content me pr vs ls)
     fills before after f a =
         let pack = encoded (content me pr vs ls) in
         let l : length pack ≡ room = pack_length (measure_number me) (price_number pr) ls (me, pr) judged vs in
-        a ∙ ap (λ k. bytes_after (job_pack m p us ls k) before) f ∙ ap (λ r. bytes_after r before) packs ∙ ap (λ rest. pack ++ rest) (drop_all (length pack) before (omega (arith, l, e, f))) ∙ append-nil pack
+        a ∙ ap (λ k. bytes_after (job_pack m p us ks k) before) f ∙ ap (λ r. bytes_after r before) packs ∙ ap (λ rest. pack ++ rest) (drop_all (length pack) before (omega (arith, l, e, f))) ∙ append-nil pack
 
     -- so that reading it gives the job
-    pub reads : (before after : List ℕ) (r : Result ℕ Fault) (size : ℕ) → length before ≡ n → after ≡ bytes_after (job_pack m p us ls (length before)) before →
-        r ≡ size_answered (job_pack m p us ls (length before)) → r ≡ Ok size → IfOk r (JobReadBack m p us ls after) → job_in after ≡ Ok (content me pr vs ls)
+    pub reads : (before after : List ℕ) (r : Result ℕ Fault) (size : ℕ) → length before ≡ n → after ≡ bytes_after (job_pack m p us ks (length before)) before →
+        r ≡ size_answered (job_pack m p us ks (length before)) → r ≡ Ok size → IfOk r (JobReadBack m p us ks after) → job_in after ≡ Ok (content me pr vs ls)
     reads before after r size f a answer ok back =
         let pack = encoded (content me pr vs ls) in
-        let b = IfOk-at_ok (JobReadBack m p us ls after) ok back in
-        let k : ◌≡◌ {A = Result ℕ Fault} (Ok size) (Ok (length pack)) = sym ok ∙ answer ∙ ap (λ l. size_answered (job_pack m p us ls l)) f ∙ ap size_answered packs in
+        let b = IfOk-at_ok (JobReadBack m p us ks after) ok back in
+        let k : ◌≡◌ {A = Result ℕ Fault} (Ok size) (Ok (length pack)) = sym ok ∙ answer ∙ ap (λ l. size_answered (job_pack m p us ks l)) f ∙ ap size_answered packs in
         let same_size : length after ≡ size = ap length (fills before after f a) ∙ sym (same_answer size (length pack) k) in
         let all : take size after ≡ after = take_all size after (omega arith) in
         let mm = measure_same b.job.measure me (b.same_measure ∙ em) in
         let pp = price_same b.job.price pr (b.same_price ∙ ep) in
         ap job_in (sym all) ∙ b.read ∙
         ap (λ x. Ok (content x b.job.price b.job.vertices b.job.levels)) mm ∙ ap (λ x. Ok (content me x b.job.vertices b.job.levels)) pp ∙
-        ap (λ x. Ok (content me pr x b.job.levels)) (b.same_line ∙ eu) ∙ ap (λ x. Ok (content me pr vs x)) b.same_levels
+        ap (λ x. Ok (content me pr x b.job.levels)) (b.same_line ∙ eu) ∙ ap (λ x. Ok (content me pr vs x)) (b.same_levels ∙ el)

@@ -4,8 +4,14 @@ use Rattle.packs.specs.Job.{Content, LawfulContent, encoded, job_in}
 use Rattle.texts.specs.Error.{onward, Blamed}
 use Rattle.texts.specs.Draft.{job_said}
 use Rattle.texts.specs.Text.{job_text}
+use Rattle.writer.specs.Job.{content}
+use Rattle.texts.specs.declared.pack.SaidJob.{SaidJob}
 use Rattle.texts.specs.declared.error.TextError.{TextError}
 use Rattle.texts.specs.declared.error.TextError.TheVariants.{Line, OutOfMemory}
+
+-- What the job that was read off a text says.
+abbrev pub said_content : SaidJob → Content
+said_content job = content job.measure job.price (vec_items job.vertices) (vec_items job.levels)
 
 -- The pack of the job that a text says, or the first line that is at fault.
 abbrev pub pack_said : List ℕ → Result (List ℕ) TextError

@@ -2,8 +2,8 @@
 ghost use Rattle.std.specs.Prelude.{◌≡◌, Ok, IfOk, MatchResult};
 ghost use Rattle.packs.specs.Job.{LawfulContent, encoded, job_in};
 ghost use Rattle.texts.specs.Error.{Blamed};
-ghost use Rattle.texts.specs.Pack.{pack_said, SaysLawfully, GivesJobBack};
-ghost use Rattle.writer.specs.Job.{content};
+ghost use Rattle.texts.specs.Pack.{said_content, pack_said, SaysLawfully, GivesJobBack};
+ghost use Rattle.texts.specs.Draft.{job_said};
 
 use crate::draft::read_lines;
 use crate::error::TextError;
@@ -16,33 +16,55 @@ use std::alloc::{AllocError, Global};
 use words::lines;
 use writer::job::write_job;
 
-// The pack of a lawful job, in memory of exactly its length. Neither call can refuse.
-fn written(
-    heap: Global,
+// A job that a text says.
+#[derive(Drop)]
+struct SaidJob {
     measure: MeasureKind,
     price: PriceKind,
-    vertices: &[Vertex],
-    levels: &[Level],
-) -> Result<Vec<u8>, AllocError>
-    requires { LawfulContent (content measure price vertices.now levels.now) }
-    ensures bytes { IfOk result (λ pack. pack.items ≡ encoded (content measure price vertices.now levels.now)) }
-    ensures reads_back { IfOk result (λ pack. job_in pack.items ≡ Ok (content measure price vertices.now levels.now)) }
-{
-    let mut line = Line::built_in();
-    line.make(vertices).unwrap();
-    let mut pack = filled(heap, 20 + 4 * vertices.len() + 8 * levels.len(), 0u8)?;
-    write_job(measure.into(), price.into(), &line, levels, pack.as_mut_slice()).unwrap();
-    Ok(pack)
+    vertices: Vec<Vertex>,
+    levels: Vec<Level>,
+}
+
+impl SaidJob {
+    // Reads a job off a text, or answers the first line that is at fault, or that memory ran out.
+    fn read(heap: Global, text: &[u8]) -> Result<SaidJob, TextError>
+        ensures { MatchResult result (λ job. job_said text.now ≡ Ok (said_content job)) (Blamed (job_said text.now)) }
+    {
+        let lines = lines(heap, text)?;
+        let draft = read_lines(heap, &lines)?;
+        let (measure, price) = draft.finish(lines.len() + 1)?;
+        let levels = draft.levels(heap)?;
+        Ok(SaidJob {
+            measure,
+            price,
+            vertices: draft.vertices,
+            levels,
+        })
+    }
+
+    // The pack of the job, if it is lawful, in memory of exactly its length. Neither call can refuse.
+    fn write(&self, heap: Global) -> Result<Vec<u8>, AllocError>
+        requires { LawfulContent (said_content self.now) }
+        ensures bytes { IfOk result (λ pack. pack.items ≡ encoded (said_content self.now)) }
+        ensures reads_back { IfOk result (λ pack. job_in pack.items ≡ Ok (said_content self.now)) }
+    {
+        let mut line = Line::built_in();
+        line.make(&self.vertices).unwrap();
+        let mut pack = filled(heap, 20 + 4 * line.count() + 8 * self.levels.len(), 0u8)?;
+        let measure = self.measure.into();
+        let price = self.price.into();
+        write_job(measure, price, &line, &self.levels, pack.as_mut_slice()).unwrap();
+        Ok(pack)
+    }
 }
 
 // Makes the pack of the job that a text says, or answers the first line that is at fault, or that memory ran out.
+#[tactic(auto, using(crate::proofs::Sound::says_lawful, crate::proofs::GivesBack::gives_job_back))]
 pub fn pack_text(heap: Global, text: &[u8]) -> Result<Vec<u8>, TextError>
     ensures answer { MatchResult result (λ pack. pack_said text.now ≡ Ok pack.items) (Blamed (pack_said text.now)) }
     ensures lawful { IfOk result (λ pack. SaysLawfully text.now pack.items) }
+    ensures gives_job_back { GivesJobBack text.now result }
 {
-    let lines = lines(heap, text)?;
-    let draft = read_lines(heap, &lines)?;
-    let (measure, price) = draft.finish(lines.len() + 1)?;
-    let levels = draft.levels(heap)?;
-    Ok(written(heap, measure, price, &draft.vertices, &levels)?)
+    let job = SaidJob::read(heap, text)?;
+    Ok(job.write(heap)?)
 }

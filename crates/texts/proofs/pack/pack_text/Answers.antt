@@ -1,27 +1,22 @@
-use Rattle.std.proofs.Common.{◌≡◌, map, length, Ok, ap, ◌∙◌, arith}
-use Rattle.std.proofs.lemmas.List.{length-map}
-use Rattle.writer.specs.Job.{content}
-use Rattle.texts.specs.Draft.{said_in, job_said}
-use Rattle.texts.proofs.Sound.{says, says_lawful}
+use Rattle.std.proofs.Common.{◌≡◌, Ok, sym, ap, ◌∙◌}
+use Rattle.texts.specs.Error.{onward}
+use Rattle.texts.specs.Pack.{said_content}
+use Rattle.packs.specs.Job.{encoded}
+use Rattle.texts.proofs.GivesBack.{gives_job_back}
+use Rattle.texts.proofs.Sound.{says_lawful}
 use Rattle.texts.proofs.pack.pack_text.Goals as goal
 
-pub written-requires : goal.written-requires
-written-requires c =
-    let lines = map (λ l. l.now) c.deref.result.now in
-    let said : job_said c.args.text.now ≡ Ok (content c.in_ok-measure.measure c.in_ok-measure.price c.deref-2.result.now c.deref-3.result.now) =
-    says c.args.text.now lines c.len.result (said_in c.in_ok-draft.draft) c.in_ok-measure.measure c.in_ok-measure.price _ _ _ _
-    (ap (map (λ l. l.now)) c.deref.ensures.value ∙ c.in_ok-lines.ensures.answer) (omega (arith, length-map c.deref.result.now (λ l. l.now), c.len.ensures, c.deref.ensures.len)) c.in_ok-draft.ensures c.in_ok-measure.ensures c.deref-2.ensures.value (c.deref-3.ensures.value ∙ c.in_ok-levels.ensures) in
-    says_lawful c.args.text.now _ said
+pub write-requires : goal.write-requires
+write-requires c = says_lawful c.args.text.now (said_content c.in_ok-job.job) c.in_ok-job.ensures
 
 pub returns-clause-lawful : goal.returns-clause-lawful
-returns-clause-lawful c =
-    let lines = map (λ l. l.now) c.deref.result.now in
-    let said : job_said c.args.text.now ≡ Ok (content c.in_ok-measure.measure c.in_ok-measure.price c.deref-2.result.now c.deref-3.result.now) =
-    says c.args.text.now lines c.len.result (said_in c.in_ok-draft.draft) c.in_ok-measure.measure c.in_ok-measure.price _ _ _ _
-    (ap (map (λ l. l.now)) c.deref.ensures.value ∙ c.in_ok-lines.ensures.answer) (omega (arith, length-map c.deref.result.now (λ l. l.now), c.len.ensures, c.deref.ensures.len)) c.in_ok-draft.ensures c.in_ok-measure.ensures c.deref-2.ensures.value (c.deref-3.ensures.value ∙ c.in_ok-levels.ensures) in
-    record {
-      job = content c.in_ok-measure.measure c.in_ok-measure.price c.deref-2.result.now c.deref-3.result.now;
-      said = said;
-      lawful = says_lawful c.args.text.now _ said;
-      read = c.in_ok-written.ensures.reads_back;
-    }
+returns-clause-lawful c = record {
+  job = said_content c.in_ok-job.job;
+  said = c.in_ok-job.ensures;
+  lawful = says_lawful c.args.text.now (said_content c.in_ok-job.job) c.in_ok-job.ensures;
+  read = c.in_ok-write.ensures.reads_back;
+}
+
+pub returns-clause-gives_job_back : goal.returns-clause-gives_job_back
+returns-clause-gives_job_back c =
+    gives_job_back c.args.text.now (Ok c.in_ok-write.field-0) (ap (λ s. onward s (λ j. Ok (encoded j))) c.in_ok-job.ensures ∙ ap Ok (sym c.in_ok-write.ensures.bytes))
