@@ -26,16 +26,7 @@ module _ (chain : ℕ → List ℕ) where
           ap (λ i. get_or (chains_to m chain ++ (chain (suc m) ∷ [])) i []) (e ∙ sym (length_to m)) ∙ get_or-append_seam (chains_to m chain) (chain (suc m)) [] [] ∙
           ap (λ i. chain (suc i)) (sym e)
 
--- a chain's vertices stand where they are taken
-pub chains_back : (cs : List (List ℕ)) → chains_of (map length cs) (concat cs) ≡ cs
-chains_back [] = refl
-chains_back (c ∷ cs) =
-    ap₂ (λ (x : List ℕ) xs. x ∷ xs) (take_at c (concat cs) (length c) refl) (ap (chains_of (map length cs)) (drop_at c (concat cs) (length c) refl) ∙ chains_back cs)
-
-pub sum_lengths : (cs : List (List ℕ)) → sum (map length cs) ≡ length (concat cs)
-sum_lengths [] = refl
-sum_lengths (c ∷ cs) = sum_by-cons (λ x. x) (length c) (map length cs) ∙ ap (λ n. length c + n) (sum_lengths cs) ∙ sym (length-append c (concat cs))
-
+-- chains of few vertices are few vertices together
 pub joined_few : (cs : List (List ℕ)) → AllByRecursion (λ c. length c ≤ 256) cs → length (concat cs) ≤ 256 * length cs
 joined_few [] h = omega arith
 joined_few (c ∷ cs) h = omega (arith, h.0, joined_few cs h.1, length-append c (concat cs))

@@ -40,24 +40,16 @@ use Rattle.drawings.specs.declared.drawing.Drawing.{Drawing}
 use Rattle.drawings.specs.declared.drawing.DrawError.{DrawError}
 use Rattle.drawings.specs.declared.drawing.DrawError.TheVariants.{Refused, OutOfMemory}
 use Rattle.drawings.proofs.Jobs.{JobRead}
-use Rattle.writer.specs.Job.{content, judged_job, size_answered, bytes_after}
+use Rattle.writer.specs.Job.{content, size_answered, bytes_after, WritableJob}
 use Rattle.writer.specs.Family.{chains_of, counts_from, judged_counts, CountsFit, family_pack}
 use Rattle.writer.specs.declared.family.Family.{Family as Given}
 use Rattle.writer.proofs.Counts.{counts_fit}
+use Rattle.writer.proofs.Chains.{chains_back, sum_lengths}
 use Rattle.writer.proofs.Families.{fits}
+use Rattle.writer.proofs.JobTrips.{judged_back}
 use Rattle.keys.specs.Key.{chains_to, chains_off, drawing_records, Written, Keys}
 use Rattle.keys.proofs.Octets.{octets_append, octets_family}
-use Rattle.keys.proofs.ChainLists.{length_to, at_to, chains_back, sum_lengths, joined_few}
-
--- the numbers of a measure and a price are known
-job_judged : (me : MeasureKind) (pr : PriceKind) (ls : List Level) → Drawable (measure_largest me) ls → judged_job (measure_number me) (price_number pr) ls ≡ Ok (me, pr)
-job_judged me pr ls law =
-    let counted : judged_count Pack (length ls) ≡ Ok tt =
-    cond-true _ _ _ (and_from _ _ (le-leb 1 (length ls) law.count.0) (le-leb (length ls) 8 law.count.1)) in
-    then_made (judged_count Pack (length ls)) _ tt counted ∙
-    known_made (measure_numbered (measure_number me)) (fault Unknown Pack 0) _ me (measure_back me) ∙
-    known_made (price_numbered (price_number pr)) (fault Unknown Pack 1) _ pr (price_back pr) ∙
-    then_made (judged_levels (measure_largest me) Pack ls) _ tt (complete (measure_largest me) Pack 1 0 ls (λ _. omega arith) law.levels_lawful)
+use Rattle.keys.proofs.ChainLists.{length_to, at_to, joined_few}
 
 -- chains of 2 to n vertices
 abbrev pub Fitting : ℕ → List ℕ → Type 0
@@ -153,10 +145,21 @@ module _ (me : MeasureKind) (pr : PriceKind) (vs : List Vertex) (ls : List Level
   pack = encoded (content me pr vs ls) ++ drawing_records d
 
   module _ (mn pn room : ℕ) (measure : mn ≡ measure_number me) (price : pn ≡ price_number pr) (enough : 5270 ≤ room) where
+    writable : WritableJob (measure_number me) (price_number pr) ls 0 room
+    writable = record {
+      count = levels.count;
+      measure_kind = me;
+      price_kind = pr;
+      same_measure = refl;
+      same_price = refl;
+      levels_lawful = levels.levels_lawful;
+      room_for = omega arith;
+    }
+
     written : family_pack mn pn vs ls f room ≡ Ok pack
     written =
         ap₂ (λ x y. family_pack x y vs ls f room) measure price ∙
-        fits (measure_number me) (price_number pr) vs ls f (me, pr) (job_judged me pr ls levels) counted fit room (omega (arith, few, enough)) ∙
+        fits (measure_number me) (price_number pr) vs ls f (me, pr) (judged_back (measure_number me) (price_number pr) ls 0 room writable) counted fit room (omega (arith, few, enough)) ∙
         ap (λ xs. Ok (encoded (content me pr vs ls) ++ family_records xs f.total)) (ap₂ (λ xs ys. chains_of xs ys) counts numbers ∙ chains_back cs) ∙
         ap (λ t. Ok (encoded (content me pr vs ls) ++ family_records cs t)) total
 
