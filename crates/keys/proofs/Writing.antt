@@ -11,14 +11,9 @@ use Rattle.families.specs.Stay.{read_off}
 use Rattle.families.proofs.Chains.{chain_length}
 use Rattle.families.proofs.Stays.{family_same, total_same}
 use Rattle.lines.specs.Line.{Lawful}
-use Rattle.lines.specs.Level.{judged_count, judged_levels}
-use Rattle.lines.specs.Fault.{fault}
 use Rattle.lines.specs.declared.fault.Fault.{Fault}
-use Rattle.lines.specs.declared.fault.Cause.TheVariants.{Unknown}
-use Rattle.lines.specs.declared.fault.Layer.TheVariants.{Pack}
 use Rattle.lines.specs.declared.level.Level.{Level}
 use Rattle.lines.specs.declared.vertex.Vertex.{Vertex}
-use Rattle.lines.proofs.Levels.{complete}
 use Rattle.measures.specs.Measure.{Answer, allowed_by}
 use Rattle.prices.specs.Price.{LinkPrice, price_by}
 use Rattle.prices.specs.Count.{count_kind, count_link}
@@ -27,11 +22,10 @@ use Rattle.packs.specs.declared.kind.MeasureKind.{MeasureKind}
 use Rattle.packs.specs.declared.kind.PriceKind.{PriceKind}
 use Rattle.packs.specs.declared.kind.PriceKind.TheVariants.{Count, CountThenArea}
 use Rattle.packs.specs.Bytes.{Octets}
-use Rattle.packs.specs.Kind.{measure_number, price_number, measure_numbered, price_numbered, measure_largest}
+use Rattle.packs.specs.Kind.{measure_number, price_number, measure_largest}
 use Rattle.packs.specs.Job.{Content, encoded}
 use Rattle.packs.specs.declared.job.Job.{Job}
-use Rattle.packs.proofs.Answered.{then_made, known_made, same_answer}
-use Rattle.packs.proofs.Accepting.{measure_back, price_back}
+use Rattle.packs.proofs.Answered.{same_answer}
 use Rattle.marker.specs.Records.{chain_of, family_records}
 use Rattle.marker.specs.Pack.{measure_says, pack_marked, total_form, ValidPack}
 use Rattle.marker.proofs.Packs.{marks_packs}
@@ -134,18 +128,17 @@ module _ (me : MeasureKind) (pr : PriceKind) (vs : List Vertex) (ls : List Level
   fit : CountsFit (length vs) (length ls) f.counts.now (length f.chains.now)
   fit = counts_fit (length vs) (length ls) f.counts.now (length f.chains.now) (Ok tt) (sym counted)
 
-  few : 20 + 4 * length vs + 8 * length ls + (6 * length f.counts.now + 2 * length f.chains.now) + 18 ≤ 5270
+  few : 20 + 4 * length vs + 8 * length ls + (6 * length ls + 2 * length f.chains.now) + 18 ≤ 5270
   few =
-      let number : length f.counts.now ≡ length ls = ap length counts ∙ length-map cs length ∙ chain_count (measure_says me) vs ls d k in
       let given : length f.chains.now ≡ length (concat cs) = ap length numbers in
       let some : length (concat cs) ≤ 256 * length cs = joined_few cs (All-weaker (Fitting (length vs)) (λ c. length c ≤ 256) (λ c w. omega (arith, w.1, line.0.1)) cs fitting) in
-      omega (arith, number, given, some, chain_count (measure_says me) vs ls d k, line.0.1, levels.count.1)
+      omega (arith, given, some, chain_count (measure_says me) vs ls d k, line.0.1, levels.count.1)
 
   abbrev pack : List ℕ
   pack = encoded (content me pr vs ls) ++ drawing_records d
 
   module _ (mn pn room : ℕ) (measure : mn ≡ measure_number me) (price : pn ≡ price_number pr) (enough : 5270 ≤ room) where
-    writable : WritableJob (measure_number me) (price_number pr) ls 0 room
+    abbrev writable : WritableJob (measure_number me) (price_number pr) ls 0 room
     writable = record {
       count = levels.count;
       measure_kind = me;
