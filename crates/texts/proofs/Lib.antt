@@ -6,3 +6,4 @@ pub mod Written
 pub mod LinesBack
 pub mod JobBack
 pub mod GivesBack
+pub mod ChainsRead

@@ -17,7 +17,7 @@ use Rattle.packs.specs.declared.kind.MeasureKind.TheVariants.{Segment, Strip, Ar
 use Rattle.packs.specs.declared.kind.PriceKind.{PriceKind}
 use Rattle.packs.specs.declared.kind.PriceKind.TheVariants.{Count, CountThenArea}
 use Rattle.packs.proofs.Answered.{then_made, known_made, same_answer}
-use Rattle.writer.specs.Job.{content, judged_job, job_pack, size_answered, bytes_after, JobReadBack}
+use Rattle.writer.specs.Job.{content, judged_job, job_pack, size_answered, bytes_after, ReadAsJob}
 use Rattle.writer.proofs.Jobs.{pack_length, fits}
 
 measure_back : (me : MeasureKind) → measure_numbered (measure_number me) ≡ Some me
@@ -61,10 +61,10 @@ module _ (me : MeasureKind) (pr : PriceKind) (vs : List Vertex) (ls : List Level
 
     -- so that reading it gives the job
     pub reads : (before after : List ℕ) (r : Result ℕ Fault) (size : ℕ) → length before ≡ n → after ≡ bytes_after (job_pack m p us ks (length before)) before →
-        r ≡ size_answered (job_pack m p us ks (length before)) → r ≡ Ok size → IfOk r (JobReadBack m p us ks after) → job_in after ≡ Ok (content me pr vs ls)
+        r ≡ size_answered (job_pack m p us ks (length before)) → r ≡ Ok size → IfOk r (λ s. ReadAsJob m p us ks (take s after)) → job_in after ≡ Ok (content me pr vs ls)
     reads before after r size f a answer ok back =
         let pack = encoded (content me pr vs ls) in
-        let b = IfOk-at_ok (JobReadBack m p us ks after) ok back in
+        let b = IfOk-at_ok (λ s. ReadAsJob m p us ks (take s after)) ok back in
         let k : ◌≡◌ {A = Result ℕ Fault} (Ok size) (Ok (length pack)) = sym ok ∙ answer ∙ ap (λ l. size_answered (job_pack m p us ks l)) f ∙ ap size_answered packs in
         let same_size : length after ≡ size = ap length (fills before after f a) ∙ sym (same_answer size (length pack) k) in
         let all : take size after ≡ after = take_all size after (omega arith) in

@@ -3,3 +3,4 @@ pub mod Statement
 pub mod Draft
 pub mod Text
 pub mod Pack
+pub mod Unpack

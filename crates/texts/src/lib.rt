@@ -5,3 +5,5 @@ mod draft;
 pub mod error;
 pub mod pack;
 mod statement;
+mod text;
+pub mod unpack;

@@ -1,0 +1,40 @@
+-- Unpacking a job or a family: what is answered for the bytes. Assumes nothing.
+use Rattle.std.specs.Prelude.{◌≡◌, ℕ, cond, List, [], ◌++◌, length, drop, Ok, Err, Result, ◌==◌}
+use Rattle.lines.specs.Fault.{then}
+use Rattle.lines.specs.declared.fault.Fault.{Fault}
+use Rattle.packs.specs.Job.{Content, LawfulContent, encoded, head_in}
+use Rattle.marker.specs.Reader.{family_in}
+use Rattle.words.specs.Lines.{each_with}
+use Rattle.drawings.specs.declared.drawing.DrawError.{DrawError}
+use Rattle.drawings.specs.declared.drawing.DrawError.TheVariants.{Refused, OutOfMemory}
+use Rattle.texts.specs.Text.{job_lines, family_lines}
+use Rattle.texts.specs.Draft.{job_said}
+
+-- The comments of the chains and the total that records hold, or the first fault in the structure of these.
+abbrev pub comments_in : ℕ → ℕ → List ℕ → Result (List (List ℕ)) Fault
+comments_in n m records = then (family_in n m records) (λ f. Ok (family_lines f.0 f.1))
+
+-- The same as text.
+abbrev pub comments_text : ℕ → ℕ → List ℕ → Result (List ℕ) Fault
+comments_text n m records = then (comments_in n m records) (λ comments. Ok (each_with 10 comments))
+
+-- The comments behind a job: none if nothing follows it.
+abbrev pub behind : Content → List ℕ → Result (List (List ℕ)) Fault
+behind j rest = cond (length rest == 0) (Ok []) (comments_in (length j.vertices) (length j.levels) rest)
+
+-- The text of a job pack or of a family pack: the lines of the job, then the comments; or the first fault. The chains are not judged.
+abbrev pub text_in : List ℕ → Result (List ℕ) Fault
+text_in bs = then (head_in bs) (λ h. then (behind h.0 (drop h.1 bs)) (λ comments. Ok (each_with 10 (job_lines h.0 ++ comments))))
+
+-- What is answered is the fault that is due, or that memory ran out.
+abbrev pub RefusedAs : {X : Type 0} → Result X Fault → DrawError → Type 0
+RefusedAs due (Refused f) = due ≡ Err f
+RefusedAs due OutOfMemory = Unit {0}
+
+-- The bytes begin with the pack of a lawful job, and the text says that job.
+pub record SaysPacked (bs text : List ℕ) : Type 0 where
+  pub job : Content
+  pub rest : List ℕ
+  pub lawful : LawfulContent job
+  pub begins : bs ≡ encoded job ++ rest
+  pub said : job_said text ≡ Ok job
