@@ -26,6 +26,9 @@ use Rattle.writer.proofs.Counts.{accepted_fit, fit_accepted}
 use Rattle.writer.proofs.Chains.{chains_length, chains_back, sum_lengths, chains_fit}
 use Rattle.writer.proofs.Families.{size_is, fits}
 
+after_first : (first rest bs : List ℕ) (k : ℕ) → bs ≡ first ++ rest → k ≡ length first → drop k bs ≡ rest
+after_first first rest bs k e n = ap (drop k) e ∙ drop_at first rest k (sym n)
+
 module _ (measure price : ℕ) (vs : List Vertex) (ls : List Level) (f : Family) where
   abbrev n : ℕ
   n = length vs
@@ -74,7 +77,7 @@ module _ (measure price : ℕ) (vs : List Vertex) (ls : List Level) (f : Family)
       let lawful : LawfulContent job = record { line = line; count = w.count; levels_lawful = w.levels_lawful } in
       let end = length (encoded job) in
       let octets_here = octets_take size after octets in
-      let rest : drop end bs ≡ records_of f = ap (drop end) same ∙ drop_at (encoded job) (records_of f) end refl in
+      let rest : drop end bs ≡ records_of f = after_first (encoded job) (records_of f) bs end same refl in
       let chains = chains_of f.counts.now f.chains.now in
       let written : Written n m (drop end bs) chains f.total = record {
         size = line.0;
@@ -120,7 +123,7 @@ module _ (measure price : ℕ) (vs : List Vertex) (ls : List Level) (f : Family)
       let rest = drop r.end bs in
       let w = ((reads_written n m rest (octets_drop r.end bs octets)).exactly chains f.total).0 r.same_chains in
       let fit = counts_again rest chains w counts numbers in
-      let cut : a.2.0 ≡ rest = sym (ap (drop r.end) a.2.1 ∙ drop_at (encoded r.job) a.2.0 r.end (sym a.1)) in
+      let cut : a.2.0 ≡ rest = sym (after_first (encoded r.job) a.2.0 bs r.end a.2.1 a.1) in
       let again : chains_of f.counts.now f.chains.now ≡ chains = ap₂ chains_of counts numbers ∙ chains_back chains in
       let pack : encoded (content r.job.measure r.job.price vs ls) ++ records_of f ≡ bs =
       ap₂ (λ xs ys. xs ++ ys) (encoded_again r.job a.0 measure price vs ls same) (ap (λ cs. family_records cs f.total) again ∙ sym w.bytes ∙ sym cut) ∙ sym a.2.1 in

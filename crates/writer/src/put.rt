@@ -1,5 +1,5 @@
 // Writing numbers and records at a place of lent bytes. Each function answers the place after what it wrote.
-ghost use Rattle.std.specs.Prelude.{◌≡◌, ◌+◌, ◌*◌, ◌≤◌, [], ◌∷◌, ◌++◌, length};
+ghost use Rattle.std.specs.Prelude.{◌≡◌, ℕ, ◌+◌, ◌*◌, ◌^◌, ◌<◌, ◌≤◌, List, [], ◌∷◌, ◌++◌, length};
 ghost use Rattle.std.specs.List.{flat_map};
 ghost use Rattle.packs.specs.Bytes.{le};
 ghost use Rattle.packs.specs.Record.{a_record};
@@ -56,48 +56,84 @@ fn put_header(bytes: &mut [u8], at: usize, size: u32, kind: u16) -> usize
     put_u16(bytes, at, kind)
 }
 
-// Writes a vertex.
-fn put_vertex(bytes: &mut [u8], at: usize, v: Vertex) -> usize
-    requires { at + 4 ≤ length bytes.old }
-    ensures { Wrote at bytes.old bytes.new (vertex_bytes v) result }
-{
-    let at = put_u16(bytes, at, v.x.cast_unsigned());
-    put_u16(bytes, at, v.y.cast_unsigned())
+// What the body of a record holds many of, each as bytes of one width.
+trait Item: Copy {
+    const WIDTH: usize;
+
+    ghost WIDTH: { ℕ };
+
+    ghost to_bytes: { Self → List ℕ };
+
+    // Writes the item.
+    fn put(self, bytes: &mut [u8], at: usize) -> usize
+        requires { at + WIDTH ≤ length bytes.old }
+        ensures wrote { Wrote at bytes.old bytes.new (to_bytes self) result }
+        ensures end { result ≡ at + WIDTH };
 }
 
-// Writes a level.
-fn put_level(bytes: &mut [u8], at: usize, level: Level) -> usize
-    requires { at + 8 ≤ length bytes.old }
-    ensures { Wrote at bytes.old bytes.new (level_bytes level) result }
-{
-    let at = put_u32(bytes, at, level.tolerance);
-    put_u32(bytes, at, level.weight)
+// A vertex.
+impl Item for Vertex {
+    const WIDTH: usize = 4;
+
+    ghost WIDTH = { 4 };
+
+    ghost to_bytes = { vertex_bytes };
+
+    fn put(self, bytes: &mut [u8], at: usize) -> usize {
+        let at = put_u16(bytes, at, self.x.cast_unsigned());
+        put_u16(bytes, at, self.y.cast_unsigned())
+    }
 }
 
-// Writes vertices.
-fn put_vertices(bytes: &mut [u8], at: usize, vertices: &[Vertex]) -> usize
-    requires { at + 4 * length vertices.now ≤ length bytes.old }
-    ensures wrote { Wrote at bytes.old bytes.new (flat_map vertex_bytes vertices.now) result }
-    ensures end { result ≡ at + 4 * length vertices.now }
+// A level.
+impl Item for Level {
+    const WIDTH: usize = 8;
+
+    ghost WIDTH = { 8 };
+
+    ghost to_bytes = { level_bytes };
+
+    fn put(self, bytes: &mut [u8], at: usize) -> usize {
+        let at = put_u32(bytes, at, self.tolerance);
+        put_u32(bytes, at, self.weight)
+    }
+}
+
+// The number of a chain's vertex.
+impl Item for u16 {
+    const WIDTH: usize = 2;
+
+    ghost WIDTH = { 2 };
+
+    ghost to_bytes = { le 2 };
+
+    fn put(self, bytes: &mut [u8], at: usize) -> usize {
+        put_u16(bytes, at, self)
+    }
+}
+
+// Writes items.
+fn put_items<T: Item>(bytes: &mut [u8], at: usize, items: &[T]) -> usize
+    requires { at + T.Item.WIDTH * length items.now ≤ length bytes.old }
+    ensures wrote { Wrote at bytes.old bytes.new (flat_map T.Item.to_bytes items.now) result }
+    ensures end { result ≡ at + T.Item.WIDTH * length items.now }
 {
     let mut end = at;
-    for v in vertices {
-        end = put_vertex(bytes, end, *v);
+    for item in items {
+        end = item.put(bytes, end);
     }
     end
 }
 
-// Writes levels.
-fn put_levels(bytes: &mut [u8], at: usize, levels: &[Level]) -> usize
-    requires { at + 8 * length levels.now ≤ length bytes.old }
-    ensures wrote { Wrote at bytes.old bytes.new (flat_map level_bytes levels.now) result }
-    ensures end { result ≡ at + 8 * length levels.now }
+// Writes the record of a kind that holds items, as many as its length can tell.
+fn put_record<T: Item>(bytes: &mut [u8], at: usize, kind: u16, items: &[T]) -> usize
+    requires room { at + 6 + T.Item.WIDTH * length items.now ≤ length bytes.old }
+    requires few { T.Item.WIDTH * length items.now < 2 ^ 32 }
+    ensures wrote { Wrote at bytes.old bytes.new (a_record kind (flat_map T.Item.to_bytes items.now)) result }
+    ensures end { result ≡ at + 6 + T.Item.WIDTH * length items.now }
 {
-    let mut end = at;
-    for level in levels {
-        end = put_level(bytes, end, *level);
-    }
-    end
+    let at = put_header(bytes, at, (T::WIDTH * items.len()) as u32, kind);
+    put_items(bytes, at, items)
 }
 
 // Writes the record of a measure and a price.
@@ -108,27 +144,6 @@ fn put_number_record(bytes: &mut [u8], at: usize, measure: u8, price: u8) -> usi
 {
     let at = put_header(bytes, at, 2, 1);
     put(bytes, at, &[measure, price])
-}
-
-// Writes the record of the vertices of a line.
-fn put_vertex_record(bytes: &mut [u8], at: usize, line: &Line) -> usize
-    requires { at + 6 + 4 * length line.now.vertices.now ≤ length bytes.old }
-    ensures wrote { Wrote at bytes.old bytes.new (a_record 2 (flat_map vertex_bytes line.now.vertices.now)) result }
-    ensures end { result ≡ at + 6 + 4 * length line.now.vertices.now }
-{
-    let at = put_header(bytes, at, 4 * line.count() as u32, 2);
-    put_vertices(bytes, at, line.vertices())
-}
-
-// Writes the record of levels, of which there are no more than a job has.
-fn put_level_record(bytes: &mut [u8], at: usize, levels: &[Level]) -> usize
-    requires room { at + 6 + 8 * length levels.now ≤ length bytes.old }
-    requires few { length levels.now ≤ 8 }
-    ensures wrote { Wrote at bytes.old bytes.new (a_record 3 (flat_map level_bytes levels.now)) result }
-    ensures end { result ≡ at + 6 + 8 * length levels.now }
-{
-    let at = put_header(bytes, at, 8 * levels.len() as u32, 3);
-    put_levels(bytes, at, levels)
 }
 
 // Writes the records of a job.
@@ -145,21 +160,8 @@ pub(crate) fn put_job(
     ensures end { result ≡ 20 + 4 * length line.now.vertices.now + 8 * length levels.now }
 {
     let at = put_number_record(bytes, 0, measure, price);
-    let at = put_vertex_record(bytes, at, line);
-    put_level_record(bytes, at, levels)
-}
-
-// Writes numbers.
-fn put_numbers(bytes: &mut [u8], at: usize, numbers: &[u16]) -> usize
-    requires { at + 2 * length numbers.now ≤ length bytes.old }
-    ensures wrote { Wrote at bytes.old bytes.new (flat_map (le 2) numbers.now) result }
-    ensures end { result ≡ at + 2 * length numbers.now }
-{
-    let mut end = at;
-    for number in numbers {
-        end = put_u16(bytes, end, *number);
-    }
-    end
+    let at = put_record(bytes, at, 2, line.vertices());
+    put_record(bytes, at, 3, levels)
 }
 
 // Writes the record of a chain, which has no more vertices than a line.
@@ -169,8 +171,7 @@ pub(crate) fn put_chain_record(bytes: &mut [u8], at: usize, chain: &[u16]) -> us
     ensures wrote { Wrote at bytes.old bytes.new (chain_record chain.now) result }
     ensures end { result ≡ at + 6 + 2 * length chain.now }
 {
-    let at = put_header(bytes, at, 2 * chain.len() as u32, 4);
-    put_numbers(bytes, at, chain)
+    put_record(bytes, at, 4, chain)
 }
 
 // Writes the record of a total.
