@@ -54,7 +54,7 @@ module _ (measure price : ℕ) (vs : List Vertex) (ls : List Level) (f : Family)
     written before after end room wrote =
         let same : job_records measure price vs ls ++ records_of f ≡ pack = ap (λ xs. xs ++ records_of f) (records measure price ls k judged vs) in
         let stop : end ≡ length pack = wrote.ends ∙ zero-add (length (job_records measure price vs ls ++ records_of f)) ∙ ap length same in
-        wrote.bytes ∙ ap₂ (λ xs n. xs ++ drop n before) same stop ∙ sym (ap (λ r. bytes_after r before) (fits (length before) room))
+        wrote.whole ∙ ap₂ (λ xs n. xs ++ drop n before) same stop ∙ sym (ap (λ r. bytes_after r before) (fits (length before) room))
 
     -- how many they are
     pub answered : (room end : ℕ) → size ≤ room → end ≡ size → Ok end ≡ size_answered (family_pack measure price vs ls f room)

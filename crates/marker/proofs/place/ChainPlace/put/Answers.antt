@@ -78,4 +78,4 @@ returns-clause-counts c =
     let none = ap length (v.3 ∙ s.0.0) in
     let few = v.2 in
     let all : k ≡ length cs = omega arith in
-    v.5.bytes ∙ ap₂ (λ xs j. map length xs ++ drop j c.args.self.now.counts) (take_all k cs (omega arith)) (all ∙ one_each)
+    v.5.whole ∙ ap₂ (λ xs j. map length xs ++ drop j c.args.self.now.counts) (take_all k cs (omega arith)) (all ∙ one_each)
