@@ -36,6 +36,11 @@ CHANGES = [
     ("coordinate", r"\.x\b", ".y"), ("coordinate", r"\.y\b", ".x"),
     ("level", r"\blevel\b(?![:(])", "(level + 1)"), ("level", r"\bk\b(?!:)", "(k + 1)"), ("level", r"\bi\b(?!:)", "(i + 1)"),
     ("case", r"\bNone\b(?! =>)", "Some(0)"), ("case", r"\bOk\(true\)", "Ok(false)"), ("case", r"Cause::(\w+)", "Cause::Limits"), ("case", r"Layer::(\w+)", "Layer::Sheet"),
+    ("condition", r"(?<=[ (|])!(?=[a-z(*])", ""), ("constant", r"b' '", "b'_'"), ("constant", r"b'(\w)'", "b'_'"), ("constant", r"\(1\)", "(2)"),
+    ("swapped", r"\bn\b(?!:)", "m"), ("swapped", r"\bm\b(?!:)", "n"), ("swapped", r"\bi\b(?!:)", "j"), ("swapped", r"\bj\b(?!:)", "i"),
+    ("swapped", r"\bp\b(?!:)", "q"), ("swapped", r"\bq\b(?!:)", "p"), ("swapped", r"\ba\b(?!:)", "b"), ("swapped", r"\bb\b(?!:)", "a"),
+    ("swapped", r"\bfirst\b(?!:)", "second"), ("swapped", r"\bsecond\b(?!:)", "first"), ("swapped", r"\bgrades\b(?!:)", "stays"), ("swapped", r"\bself\b(?!:)", "other"),
+    ("swapped", r"\bmeasure\b(?!:)", "price"), ("swapped", r"\bprice\b(?!:)", "measure"), ("swapped", r"\bvertices\b(?!:)", "levels"), ("swapped", r"\blevels\b(?!:)", "vertices"),
     ("swapped", r"min\(", "max("), ("swapped", r"max\(", "min("), ("swapped", r"\.first\(\)", ".last()"), ("swapped", r"\.last\(\)", ".first()"),
 ]
 
