@@ -1,5 +1,5 @@
 -- Chains that were read, and their comments. Assumes nothing.
-use Rattle.std.proofs.Common.{◌≡◌, ℕ, ◌-◌, ◌≤◌, List, [], ◌∷◌, ◌++◌, length, take, sum, map, Ok, Err, Result, sym, refl, ap, ap₂, ◌∙◌, arith, append_assoc, length-append}
+use Rattle.std.proofs.Common.{◌≡◌, ℕ, ◌≤◌, cond, eqb, false, List, [], ◌∷◌, ◌++◌, length, take, sum, map, Ok, Err, Result, sym, refl, ap, ap₂, ◌∙◌, arith, append_assoc}
 use Rattle.std.specs.List.{concat}
 use Rattle.std.proofs.lemmas.List.{take_at, length-map}
 use Rattle.lines.specs.Fault.{then}
@@ -37,7 +37,7 @@ read n m bs claim numbers before counts older a exact e f =
       counts_read = ap (take m) (f ∙ ap (λ r. placed_counts r older) p.1) ∙ take_at (map length p.0.0) _ m (length-map p.0.0 length ∙ w.one_each);
     }
 
-each_append : (xs ys : List (List ℕ)) → each_with 10 (xs ++ ys) ≡ each_with 10 xs ++ each_with 10 ys
+pub each_append : (xs ys : List (List ℕ)) → each_with 10 (xs ++ ys) ≡ each_with 10 xs ++ each_with 10 ys
 each_append [] ys = refl
 each_append (x ∷ xs) ys = ap (λ zs. x ++ (10 ∷ zs)) (each_append xs ys) ∙ sym (append_assoc x (10 ∷ each_with 10 xs) (each_with 10 ys))
 
@@ -46,16 +46,18 @@ module _ (n m : ℕ) (bs : List ℕ) (claim : Claim) (numbers counts vs cs : Lis
   fits = let s = ap sum (ec ∙ r.counts_read) ∙ sum_lengths r.chains in let l = ap length (ev ∙ r.numbers_read) in omega (arith, s, l)
 
   pub comments : (text total all : List ℕ) → text ≡ each_with 10 (chain_lines 1 (chains_of cs vs)) → total ≡ total_text claim.total →
-      all ≡ text ++ (comment total ++ (10 ∷ [])) → comments_text n m bs ≡ Ok all
-  comments text total all e f g =
+      all ≡ text ++ (comment total ++ (10 ∷ [])) → eqb (length bs) 0 ≡ false → comments_text n m bs ≡ Ok all
+  comments text total all e f g some =
       let chains = ap₂ chains_of (ec ∙ r.counts_read) (ev ∙ r.numbers_read) ∙ chains_back r.chains in
       let lines : all ≡ each_with 10 (family_lines r.chains r.form) =
       g ∙ ap₂ (λ x y. x ++ (comment y ++ (10 ∷ []))) (e ∙ ap (λ cs. each_with 10 (chain_lines 1 cs)) chains) (f ∙ ap total_text r.total) ∙
       sym (each_append (chain_lines 1 r.chains) (comment (total_text r.form) ∷ [])) in
+      ap (λ b. then (cond b (Ok []) (then (family_in n m bs) (λ p. Ok (family_lines p.0 p.1)))) (λ ls. Ok (each_with 10 ls))) some ∙
       ap (λ x. then (then x (λ p. Ok (family_lines p.0 p.1))) (λ ls. Ok (each_with 10 ls))) r.is ∙ ap Ok (sym lines)
 
-pub refused : (n m : ℕ) (bs : List ℕ) (f : Fault) → Err f ≡ claim_of (family_in n m bs) → comments_text n m bs ≡ Err f
-refused n m bs f e = through (family_in n m bs) e
+pub refused : (n m : ℕ) (bs : List ℕ) (f : Fault) → eqb (length bs) 0 ≡ false → Err f ≡ claim_of (family_in n m bs) → comments_text n m bs ≡ Err f
+refused n m bs f some e =
+    ap (λ b. then (cond b (Ok []) (then (family_in n m bs) (λ p. Ok (family_lines p.0 p.1)))) (λ ls. Ok (each_with 10 ls))) some ∙ through (family_in n m bs) e
   where
     through : (r : Result (List (List ℕ) × (ℕ × ℕ)) Fault) → Err f ≡ claim_of r → then (then r (λ p. Ok (family_lines p.0 p.1))) (λ ls. Ok (each_with 10 ls)) ≡ Err f
     through (Ok x) e = cc

@@ -73,9 +73,9 @@ said_fine line (word ∷ words) ss h =
     either (slice_index word 0 == 35) _ _ _ h (λ k. subst (AllByRecursion Fine) (same [] ss k) tt) (λ h.
     either (starts_with (λ c d. c == d) word (codes "LINESTRING")) _ _ _ h
     (λ k.
-      let m = mapped (map Vertex) (line_string_in line) ss (ok_or_ok _ LineString ss k) in
-      let p = chained _ (inside line) m.0 m.1 in
-      subst (AllByRecursion Fine) m.2 (vertices_fine (parts 44 p.0) m.0 p.2))
+    let m = mapped (map Vertex) (line_string_in line) ss (ok_or_ok _ LineString ss k) in
+    let p = chained _ (inside line) m.0 m.1 in
+    subst (AllByRecursion Fine) m.2 (vertices_fine (parts 44 p.0) m.0 p.2))
     (λ k. let m = onward_ok (stated word words) (λ s. Ok (s ∷ [])) ss k in subst (AllByRecursion Fine) (same (m.0 ∷ []) ss m.2) (stated_fine word words m.0 m.1, tt)))
 
 pub statements_fine : (line : List ℕ) (ss : List Statement) → statements_in line ≡ Ok ss → AllByRecursion Fine ss

@@ -1,6 +1,6 @@
 -- The text of a lawful job says that job. Assumes nothing.
-use Rattle.std.proofs.Common.{◌≡◌, ℕ, zero, suc, ◌+◌, ◌-◌, ◌<◌, ◌≤◌, Bool, true, false, cond, ◌&&◌, ◌||◌, eqb, ltb, leb, List, [], ◌∷◌, ◌++◌, length, get_or, map, Some, None, Ok, Err, Option, Result, sym, refl, ap, subst, ◌∙◌, arith, append_assoc, append-nil, length-append, lit≤}
-use Rattle.std.specs.List.{All, AllByRecursion}
+use Rattle.std.proofs.Common.{◌≡◌, ℕ, suc, ◌+◌, ◌-◌, ◌<◌, ◌≤◌, Bool, true, false, ◌||◌, eqb, ltb, List, [], ◌∷◌, ◌++◌, length, get_or, map, Some, Ok, sym, refl, ap, subst, ◌∙◌, arith, append_assoc, append-nil, length-append, lit≤}
+use Rattle.std.specs.List.{AllByRecursion}
 use Rattle.std.proofs.Math.Seq.{get_or-append_seam}
 use Rattle.std.proofs.lemmas.Bool.{cond-true, cond-false}
 use Rattle.std.proofs.lemmas.Bool.Decides.{nat_tests}
@@ -13,15 +13,14 @@ use Rattle.packs.specs.Job.{Content, LawfulContent}
 use Rattle.packs.specs.Kind.{measure_largest}
 use Rattle.packs.specs.declared.kind.MeasureKind.{MeasureKind}
 use Rattle.packs.specs.declared.kind.MeasureKind.TheVariants.{Segment, Strip, Area}
-use Rattle.words.specs.Lines.{IsLine, lines_of, each_with}
+use Rattle.words.specs.Lines.{IsLine, each_with}
 use Rattle.words.proofs.LineTrips.{lines_written}
 use Rattle.writer.specs.Job.{content}
 use Rattle.texts.specs.Error.{onward, at_line}
 use Rattle.texts.specs.Statement.{statements_in}
-use Rattle.texts.specs.Draft.{Said, nothing, numbered, no_level, rises, with_level, with_vertex, taken, all_taken, all_said, levels_of, none_above, counted, whole, job_said}
+use Rattle.texts.specs.Draft.{Said, nothing, numbered, no_level, rises, taken, all_taken, all_said, none_above, counted, whole, job_said}
 use Rattle.texts.specs.Text.{measure_line, price_line, level_line, vertex_line, job_lines, job_text}
 use Rattle.texts.specs.declared.draft.LevelLine.{LevelLine}
-use Rattle.texts.specs.declared.error.TextError.{TextError}
 use Rattle.texts.specs.declared.statement.Statement.{Statement}
 use Rattle.texts.specs.declared.statement.Statement.TheVariants.{Measure, Price, Level, Vertex}
 use Rattle.texts.proofs.LinesBack.{Says, measure_back, price_back, level_back, vertex_back}
@@ -166,11 +165,14 @@ module _ (j : Content) (law : LawfulContent j) where
   quiet_lines (line ∷ more) q = (q.0.one_line, quiet_lines more q.1)
 
   are_lines : (more : List (List ℕ)) → AllByRecursion Quiet more → AllByRecursion IsLine (job_lines j ++ more)
-  are_lines more q =
-      ((measure_back j.measure).one_line,
-        ((price_back j.price).one_line,
-          subst (AllByRecursion IsLine) (sym (append_assoc (map level_line j.levels) (map vertex_line j.vertices) more))
-          (level_lines (measure_largest j.measure) j.levels (map vertex_line j.vertices ++ more) (largest_small j.measure) law.levels_lawful (vertex_lines j.vertices more vertices_in_range (quiet_lines more q)))))
+  are_lines more q = (
+    (measure_back j.measure).one_line,
+    (
+      (price_back j.price).one_line,
+      subst (AllByRecursion IsLine) (sym (append_assoc (map level_line j.levels) (map vertex_line j.vertices) more))
+          (level_lines (measure_largest j.measure) j.levels (map vertex_line j.vertices ++ more) (largest_small j.measure) law.levels_lawful (vertex_lines j.vertices more vertices_in_range (quiet_lines more q))),
+    ),
+  )
 
   -- the text of a job, also with lines behind it that say nothing, says that job
   pub job_back : (more : List (List ℕ)) → AllByRecursion Quiet more → job_said (each_with 10 (job_lines j ++ more)) ≡ Ok j

@@ -7,3 +7,4 @@ pub mod LinesBack
 pub mod JobBack
 pub mod GivesBack
 pub mod ChainsRead
+pub mod Unpacked

@@ -1,6 +1,6 @@
 -- The lines of a job say what they were written for. Assumes nothing.
-use Rattle.std.proofs.Common.{◌≡◌, ℕ, suc, ◌+◌, ◌<◌, ◌≤◌, ◌&&◌, true, leb, List, [], ◌∷◌, length, Some, Ok, Err, Option, Result, ℤ, pos, negsuc, ◌≤ℤ◌, sym, refl, ap, subst, ◌∙◌, arith}
-use Rattle.std.specs.Prelude.{codes, cond, decimal, int_le, ok_or, option_map, option_and_then, unsigned_abs}
+use Rattle.std.proofs.Common.{◌≡◌, ℕ, ◌≤◌, true, List, [], ◌∷◌, Some, Ok, ℤ, pos, negsuc, ◌≤ℤ◌, sym, refl, ap, subst, ◌∙◌, arith}
+use Rattle.std.specs.Prelude.{codes, decimal, int_le, ok_or, option_map, option_and_then, unsigned_abs}
 use Rattle.std.specs.Fmt.{signed_decimal}
 use Rattle.std.specs.List.{AllByRecursion, join_with_byte}
 use Rattle.std.proofs.lemmas.Bool.{and_from, le-leb, cond-true}
@@ -23,7 +23,6 @@ use Rattle.words.proofs.WordTrips.{words_joined}
 use Rattle.texts.specs.Error.{onward}
 use Rattle.texts.specs.Statement.{coordinate_of, vertex_in, level_in, weighted, level_stated, said_by, statements_in}
 use Rattle.texts.specs.Text.{measure_line, measure_name, price_line, price_name, level_line, vertex_line}
-use Rattle.texts.specs.declared.error.Expected.{Expected}
 use Rattle.texts.specs.declared.error.Expected.TheVariants.{VertexNumbers}
 use Rattle.texts.specs.declared.statement.Statement.{Statement}
 use Rattle.texts.specs.declared.statement.Statement.TheVariants.{Measure, Price, Level, Vertex}

@@ -85,12 +85,12 @@ level_sound n d e l f s h =
     let few : length d.levels < 8 = below _ _ p.0 in
     let k = length-append d.levels (numbered n l ∷ []) in
     subst Sound (same _ e q.1) (record {
-        in_range = s.in_range;
-        few_vertices = s.few_vertices;
-        weighted = All-push Weighted d.levels (numbered n l) s.weighted f;
-        rising = more_rising n d.levels l q.0 s.rising;
-        few_levels = omega (arith, k, few);
-      })
+      in_range = s.in_range;
+      few_vertices = s.few_vertices;
+      weighted = All-push Weighted d.levels (numbered n l) s.weighted f;
+      rising = more_rising n d.levels l q.0 s.rising;
+      few_levels = omega (arith, k, few);
+    })
 
 vertex_sound : (d e : Said) (v : LineVertex) → InRange v → Sound d → with_vertex d v ≡ Ok e → Sound e
 vertex_sound d e v f s h =
@@ -98,12 +98,12 @@ vertex_sound d e v f s h =
     let few : length d.vertices < 256 = below _ _ p.0 in
     let k = length-append d.vertices (v ∷ []) in
     subst Sound (same _ e p.1) (record {
-        in_range = All-push InRange d.vertices v s.in_range f;
-        few_vertices = omega (arith, k, few);
-        weighted = s.weighted;
-        rising = s.rising;
-        few_levels = s.few_levels;
-      })
+      in_range = All-push InRange d.vertices v s.in_range f;
+      few_vertices = omega (arith, k, few);
+      weighted = s.weighted;
+      rising = s.rising;
+      few_levels = s.few_levels;
+    })
 
 taken_sound : (n : ℕ) (statement : Statement) (d e : Said) → Fine statement → Sound d → taken n statement d ≡ Ok e → Sound e
 taken_sound n (Measure m) d e f s h = measure_sound d e m d.measure s h
@@ -168,10 +168,10 @@ whole_sound end d j s h =
     let one = some d.levels t.0 in
     let two = not_above (length d.vertices) 2 u.0 in
     subst LawfulContent (same (content p.0 r.0 d.vertices (levels_of d)) j u.1) (record {
-        line = ((two, s.few_vertices), λ i z. s.in_range i origin z);
-        count = (omega (arith, k, one), omega (arith, k, few));
-        levels_lawful = levels_sound (measure_largest p.0) d s (within (measure_largest p.0) d.levels q.1);
-      })
+      line = ((two, s.few_vertices), λ i z. s.in_range i origin z);
+      count = (omega (arith, k, one), omega (arith, k, few));
+      levels_lawful = levels_sound (measure_largest p.0) d s (within (measure_largest p.0) d.levels q.1);
+    })
 
 pub says_lawful : (text : List ℕ) (j : Content) → job_said text ≡ Ok j → LawfulContent j
 says_lawful text j h =

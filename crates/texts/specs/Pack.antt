@@ -1,7 +1,7 @@
 -- Packing a text: what is answered for it. Assumes nothing.
 use Rattle.std.specs.Prelude.{◌≡◌, ℕ, List, Ok, Err, Result, Vec, vec_items}
 use Rattle.packs.specs.Job.{Content, LawfulContent, encoded, job_in}
-use Rattle.texts.specs.Error.{onward, Blamed}
+use Rattle.texts.specs.Error.{onward}
 use Rattle.texts.specs.Draft.{job_said}
 use Rattle.texts.specs.Text.{job_text}
 use Rattle.writer.specs.Job.{content}

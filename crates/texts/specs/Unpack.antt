@@ -10,21 +10,19 @@ use Rattle.drawings.specs.declared.drawing.DrawError.TheVariants.{Refused, OutOf
 use Rattle.texts.specs.Text.{job_lines, family_lines}
 use Rattle.texts.specs.Draft.{job_said}
 
--- The comments of the chains and the total that records hold, or the first fault in the structure of these.
+-- The comments of the chains and the total of a family, of a line of n vertices and m levels, or the first fault in the structure of their
+-- records; a job has none. The chains are not judged.
 abbrev pub comments_in : ℕ → ℕ → List ℕ → Result (List (List ℕ)) Fault
-comments_in n m records = then (family_in n m records) (λ f. Ok (family_lines f.0 f.1))
+comments_in n m records = cond (length records == 0) (Ok []) (then (family_in n m records) (λ f. Ok (family_lines f.0 f.1)))
 
 -- The same as text.
 abbrev pub comments_text : ℕ → ℕ → List ℕ → Result (List ℕ) Fault
 comments_text n m records = then (comments_in n m records) (λ comments. Ok (each_with 10 comments))
 
--- The comments behind a job: none if nothing follows it.
-abbrev pub behind : Content → List ℕ → Result (List (List ℕ)) Fault
-behind j rest = cond (length rest == 0) (Ok []) (comments_in (length j.vertices) (length j.levels) rest)
-
--- The text of a job pack or of a family pack: the lines of the job, then the comments; or the first fault. The chains are not judged.
+-- The text of a job pack or of a family pack: the lines of the job, then the comments of a family; or the first fault.
 abbrev pub text_in : List ℕ → Result (List ℕ) Fault
-text_in bs = then (head_in bs) (λ h. then (behind h.0 (drop h.1 bs)) (λ comments. Ok (each_with 10 (job_lines h.0 ++ comments))))
+text_in bs =
+    then (head_in bs) (λ h. then (comments_in (length h.0.vertices) (length h.0.levels) (drop h.1 bs)) (λ comments. Ok (each_with 10 (job_lines h.0 ++ comments))))
 
 -- What is answered is the fault that is due, or that memory ran out.
 abbrev pub RefusedAs : {X : Type 0} → Result X Fault → DrawError → Type 0

@@ -113,9 +113,7 @@ impl Draft {
             .measure
             .ok_or(TextError::Line(end, Expected::SomeMeasure))?;
         check_largest(&self.levels, measure.largest())?;
-        let price = self
-            .price
-            .ok_or(TextError::Line(end, Expected::SomePrice))?;
+        let price = self.price.ok_or(TextError::Line(end, Expected::SomePrice))?;
         if self.levels.is_empty() {
             return Err(TextError::Line(end, Expected::SomeLevel));
         }

@@ -50,7 +50,9 @@ impl fmt::Display for Expected {
 
     fn fmt<W: fmt::Write>(&self, f: &mut fmt::Formatter<W>) -> fmt::Result {
         match self {
-            Self::Form => f.write_str("measure M, price P, level TOLERANCE WEIGHT, vertex X Y or LINESTRING (X Y, X Y, ...)"),
+            Self::Form => f.write_str(
+                "measure M, price P, level TOLERANCE WEIGHT, vertex X Y or LINESTRING (X Y, X Y, ...)",
+            ),
             Self::MeasureName => f.write_str("measure segment, measure strip or measure area"),
             Self::OneMeasure => f.write_str("no second measure"),
             Self::PriceName => f.write_str("price count or price count-area"),
@@ -60,13 +62,21 @@ impl fmt::Display for Expected {
             Self::RisingTolerance => f.write_str("a tolerance above that of the level before"),
             Self::ToleranceUpTo(largest) => write!(f, "a tolerance of at most {largest}"),
             Self::FewLevels => f.write_str("at most 8 levels"),
-            Self::VertexNumbers => f.write_str("vertex X Y, two whole numbers from -16384 to 16383"),
-            Self::LineString => f.write_str("LINESTRING (X Y, X Y, ...), all whole numbers from -16384 to 16383"),
+            Self::VertexNumbers => f.write_str(
+                "vertex X Y, two whole numbers from -16384 to 16383",
+            ),
+            Self::LineString => f.write_str(
+                "LINESTRING (X Y, X Y, ...), all whole numbers from -16384 to 16383",
+            ),
             Self::FewVertices => f.write_str("at most 256 vertices"),
-            Self::SomeMeasure => f.write_str("a measure: measure segment, measure strip or measure area"),
+            Self::SomeMeasure => f.write_str(
+                "a measure: measure segment, measure strip or measure area",
+            ),
             Self::SomePrice => f.write_str("a price: price count or price count-area"),
             Self::SomeLevel => f.write_str("a level: level TOLERANCE WEIGHT"),
-            Self::TwoVertices => f.write_str("at least 2 vertices: vertex X Y or LINESTRING (X Y, X Y, ...)"),
+            Self::TwoVertices => f.write_str(
+                "at least 2 vertices: vertex X Y or LINESTRING (X Y, X Y, ...)",
+            ),
         }
     }
 }

@@ -1,4 +1,4 @@
-use Rattle.std.proofs.Common.{◌≡◌, Ok, sym, ap, ◌∙◌}
+use Rattle.std.proofs.Common.{Ok, sym, ap, ◌∙◌}
 use Rattle.texts.specs.Error.{onward}
 use Rattle.texts.specs.Pack.{said_content}
 use Rattle.packs.specs.Job.{encoded}
