@@ -50,13 +50,14 @@ fn run(program: fn(&[u8]) -> Output) -> Ended {
 
 fn run_edit(job: Option<OsString>) -> Ended {
     let job = job.ok_or("edit: no job is named")?;
-    let script = io::read_to_string(io::stdin().lock())?;
-    let edits = match read_script(script_lines(&script)) {
-        Ok(edits) => edits,
-        Err(bad) => return print(bad_script(bad)),
-    };
     let pack = fs::read(&job).map_err(|error| format!("{}: {error}", job.display()))?;
-    print(edit(&edits, &pack))
+    let mut script = Vec::new();
+    io::stdin().lock().read_to_end(&mut script)?;
+    // What is no text becomes a character that is no blank and orders nothing; it may stand in a comment.
+    match read_script(script_lines(&String::from_utf8_lossy(&script))) {
+        Ok(edits) => print(edit(&edits, &pack)),
+        Err(bad) => print(bad_script(bad)),
+    }
 }
 
 fn print(output: Output) -> Ended {

@@ -120,21 +120,16 @@ fn edit() {
         bad,
     );
     expect(&["edit", file], b"", 0, "");
-    expect(
-        &["edit", "no/such/file"],
-        b"# comment\ndraw\npins\n",
-        1,
-        bad,
-    );
+    expect(&["edit", file], b"# \xff\n\n\xff\n", 1, bad);
+    expect(&["edit", file], b"# \xff\ndraw\n", 0, DRAWN);
 }
 
 #[test]
 fn edit_without_its_input() {
-    let file = job_file("no-text.job");
     for (arguments, script) in [
         (vec!["edit"], &b"draw\n"[..]),
         (vec!["edit", "no/such/file"], b"draw\n"),
-        (vec!["edit", file.to_str().unwrap()], b"draw\n\xff\n"),
+        (vec!["edit", "no/such/file"], b"pins\n"),
     ] {
         let ran = run(&arguments, script);
         assert_eq!((ran.status, ran.stdout.as_str()), (1, ""));
