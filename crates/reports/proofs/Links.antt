@@ -55,3 +55,7 @@ alone_allowed false h = h
 pub allowed_alone : (b : Bool) → T b → T (b && true)
 allowed_alone true h = h
 allowed_alone false h = h
+
+pub allowed_both : (a b : Bool) → T a → T b → T (a && b)
+allowed_both true b g h = h
+allowed_both false b g h = g

@@ -1,2 +1,7 @@
 pub mod Share
 pub mod Link
+pub mod Yields
+pub mod Family
+pub mod Row
+pub mod Report
+pub mod Text
