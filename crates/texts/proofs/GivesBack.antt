@@ -5,9 +5,10 @@ use Rattle.packs.specs.Job.{Content, encoded}
 use Rattle.texts.specs.Error.{onward, Blamed}
 use Rattle.texts.specs.Draft.{job_said}
 use Rattle.texts.specs.Pack.{pack_said, PackedAs, GivesJobBack}
+use Rattle.texts.specs.Text.{job_text, short_text}
 use Rattle.texts.specs.declared.error.TextError.{TextError}
 use Rattle.texts.specs.declared.error.TextError.TheVariants.{Line, OutOfMemory}
-use Rattle.texts.proofs.JobBack.{text_back}
+use Rattle.texts.proofs.JobBack.{text_back, short_back}
 use Rattle.texts.proofs.Steps.{same}
 
 packed_as : {A : Type 0} (text : List ℕ) (j : Content) (r : Result (Vec ℕ A) TextError) → job_said text ≡ Ok j → MatchResult r (λ pack. pack_said text ≡ Ok (vec_items pack)) (Blamed (pack_said text)) → PackedAs j r
@@ -17,5 +18,10 @@ packed_as text j (Err (Line n x)) e h =
     let z : ◌≡◌ {A = ℕ} 0 1 = cc in absurd (omega arith)
 packed_as text j (Err OutOfMemory) e h = tt
 
-pub gives_job_back : {A : Type 0} (text : List ℕ) (r : Result (Vec ℕ A) TextError) → MatchResult r (λ pack. pack_said text ≡ Ok (vec_items pack)) (Blamed (pack_said text)) → GivesJobBack text r
+pub gives_job_back : {A : Type 0} (text : List ℕ) (r : Result (Vec ℕ A) TextError) → MatchResult r (λ pack. pack_said text ≡ Ok (vec_items pack)) (Blamed (pack_said text)) →
+    GivesJobBack job_text text r
 gives_job_back text r h j law e = packed_as text j r (ap job_said e ∙ text_back j law) h
+
+pub gives_short_job_back : {A : Type 0} (text : List ℕ) (r : Result (Vec ℕ A) TextError) → MatchResult r (λ pack. pack_said text ≡ Ok (vec_items pack)) (Blamed (pack_said text)) →
+    GivesJobBack short_text text r
+gives_short_job_back text r h j law e = packed_as text j r (ap job_said e ∙ short_back j law) h

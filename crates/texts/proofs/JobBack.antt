@@ -1,5 +1,5 @@
 -- The text of a lawful job says that job. Assumes nothing.
-use Rattle.std.proofs.Common.{◌≡◌, ℕ, suc, ◌+◌, ◌-◌, ◌<◌, ◌≤◌, Bool, true, false, ◌||◌, eqb, ltb, List, [], ◌∷◌, ◌++◌, length, get_or, map, Some, Ok, sym, refl, ap, subst, ◌∙◌, arith, append_assoc, append-nil, length-append, lit≤}
+use Rattle.std.proofs.Common.{◌≡◌, ℕ, suc, ◌+◌, ◌-◌, ◌<◌, ◌≤◌, Bool, true, false, ◌||◌, eqb, ltb, List, [], ◌∷◌, ◌++◌, length, get_or, map, Some, Ok, Err, sym, refl, ap, subst, ◌∙◌, arith, append_assoc, append-nil, length-append, lit≤}
 use Rattle.std.specs.List.{AllByRecursion}
 use Rattle.std.proofs.Math.Seq.{get_or-append_seam}
 use Rattle.std.proofs.lemmas.Bool.{cond-true, cond-false}
@@ -19,10 +19,12 @@ use Rattle.writer.specs.Job.{content}
 use Rattle.texts.specs.Error.{onward, at_line}
 use Rattle.texts.specs.Statement.{statements_in}
 use Rattle.texts.specs.Draft.{Said, nothing, numbered, no_level, rises, taken, all_taken, all_said, none_above, counted, whole, job_said}
-use Rattle.texts.specs.Text.{measure_line, price_line, level_line, vertex_line, job_lines, job_text}
+use Rattle.texts.specs.Text.{measure_line, price_line, level_line, vertex_line, line_string, job_lines, job_text, short_text}
 use Rattle.texts.specs.declared.draft.LevelLine.{LevelLine}
 use Rattle.texts.specs.declared.statement.Statement.{Statement}
 use Rattle.texts.specs.declared.statement.Statement.TheVariants.{Measure, Price, Level, Vertex}
+use Rattle.texts.specs.declared.error.Expected.TheVariants.{FewVertices}
+use Rattle.texts.proofs.LineStrings.{line_string_says, line_string_line}
 use Rattle.texts.proofs.LinesBack.{Says, measure_back, price_back, level_back, vertex_back}
 
 -- one line that says one thing
@@ -86,6 +88,22 @@ vertices_said n (v ∷ vs) rest d r room =
     vertices_said (n + 1) vs rest e r.1 (omega (arith, k)) ∙
     ap (λ j. all_said j rest (with_vertices e vs)) m ∙
     ap (λ xs. all_said (n + suc (length vs)) rest (record d { vertices = xs })) (append_assoc d.vertices (v ∷ []) vs)
+
+-- one line that says them all
+all_taken_vertices : (n : ℕ) (vs : List LineVertex) (d : Said) → length d.vertices + length vs ≤ 256 → all_taken n (map Vertex vs) d ≡ Ok (with_vertices d vs)
+all_taken_vertices n [] d room = ap (λ vs. Ok (record d { vertices = vs })) (sym (append-nil d.vertices))
+all_taken_vertices n (v ∷ vs) d room =
+    let e : Said = with_vertices d (v ∷ []) in
+    let k = length-append d.vertices (v ∷ []) in
+    ap (λ r. onward r (all_taken n (map Vertex vs))) (cond-true _ (Ok e) (Err FewVertices) (few (length d.vertices) 256 (omega arith))) ∙
+    all_taken_vertices n vs e (omega (arith, k)) ∙ ap (λ xs. Ok (record d { vertices = xs })) (append_assoc d.vertices (v ∷ []) vs)
+
+line_string_said : (n : ℕ) (vs : List LineVertex) (d : Said) → 0 < length vs → AllByRecursion InRange vs → length d.vertices + length vs ≤ 256 →
+    all_said n (line_string vs ∷ []) d ≡ Ok (with_vertices d vs)
+line_string_said n [] d some r room = absurd (omega arith)
+line_string_said n (v ∷ vs) d some r room =
+    ap (λ s. onward (at_line n s) (λ ss. onward (at_line n (all_taken n ss d)) (all_said (n + 1) []))) (line_string_says v vs r) ∙
+    ap (λ s. onward (at_line n s) (all_said (n + 1) [])) (all_taken_vertices n (v ∷ vs) d room)
 
 -- lines that say nothing
 pub record Quiet (line : List ℕ) : Type 0 where
@@ -183,3 +201,28 @@ module _ (j : Content) (law : LawfulContent j) where
 
   pub text_back : job_said (job_text j) ≡ Ok j
   text_back = ap (λ ls. job_said (each_with 10 ls)) (sym (append-nil (job_lines j))) ∙ job_back [] tt
+
+  -- and so does its text with one line for all vertices
+  abbrev short_lines : List (List ℕ)
+  short_lines = measure_line j.measure ∷ (price_line j.price ∷ (map level_line j.levels ++ (line_string j.vertices ∷ [])))
+
+  short_said : all_said 1 short_lines nothing ≡ Ok said
+  short_said =
+      let third = with_levels second (numbered_from 3 j.levels) in
+      one 1 (measure_line j.measure) (price_line j.price ∷ (map level_line j.levels ++ (line_string j.vertices ∷ []))) (Measure j.measure) nothing first (measure_back j.measure) refl ∙
+      one 2 (price_line j.price) (map level_line j.levels ++ (line_string j.vertices ∷ [])) (Price j.price) first second (price_back j.price) refl ∙
+      levels_said (measure_largest j.measure) (largest_small j.measure) 3 j.levels (line_string j.vertices ∷ []) second law.levels_lawful (let c = law.count.1 in omega (arith, c)) (λ _. refl) ∙
+      line_string_said (3 + length j.levels) j.vertices third (let c = law.line.0.0 in omega (arith, c)) vertices_in_range (let c = law.line.0.1 in omega (arith, c))
+
+  line_string_is_line : (vs : List LineVertex) → 0 < length vs → AllByRecursion InRange vs → IsLine (line_string vs)
+  line_string_is_line [] some r = absurd (omega arith)
+  line_string_is_line (v ∷ vs) some r = line_string_line v vs r
+
+  pub short_back : job_said (short_text j) ≡ Ok j
+  short_back =
+      let last = line_string_is_line j.vertices (let c = law.line.0.0 in omega (arith, c)) vertices_in_range in
+      let lines = lines_written short_lines (
+        (measure_back j.measure).one_line,
+        ((price_back j.price).one_line, level_lines (measure_largest j.measure) j.levels (line_string j.vertices ∷ []) (largest_small j.measure) law.levels_lawful (last, tt)),
+      ) in
+      ap (λ ls. onward (all_said 1 ls nothing) (whole (length ls + 1))) lines ∙ ap (λ r. onward r (whole (length short_lines + 1))) short_said ∙ whole_back (length short_lines + 1)

@@ -8,3 +8,4 @@ pub mod JobBack
 pub mod GivesBack
 pub mod ChainsRead
 pub mod Unpacked
+pub mod LineStrings

@@ -22,7 +22,7 @@ use Rattle.words.proofs.Solid.{Solid, printed_codes, solid_number, solid_signed,
 use Rattle.words.proofs.WordTrips.{words_joined}
 use Rattle.texts.specs.Error.{onward}
 use Rattle.texts.specs.Statement.{coordinate_of, vertex_in, level_in, weighted, level_stated, said_by, statements_in}
-use Rattle.texts.specs.Text.{measure_line, measure_name, price_line, price_name, level_line, vertex_line}
+use Rattle.texts.specs.Text.{measure_line, measure_name, price_line, price_name, level_line, vertex_text, vertex_line}
 use Rattle.texts.specs.declared.error.Expected.TheVariants.{VertexNumbers}
 use Rattle.texts.specs.declared.statement.Statement.{Statement}
 use Rattle.texts.specs.declared.statement.Statement.TheVariants.{Measure, Price, Level, Vertex}
@@ -83,7 +83,7 @@ level_back l t w =
 below : (a z : ℤ) → a ≤ℤ z → int_le a z ≡ true
 below a z h = grind (arith, ints)
 
-near : (z : ℤ) → negsuc 16383 ≤ℤ z → z ≤ℤ pos 16383 → unsigned_abs z ≤ 4294967295
+pub near : (z : ℤ) → negsuc 16383 ≤ℤ z → z ≤ℤ pos 16383 → unsigned_abs z ≤ 4294967295
 near (pos n) a b = omega (arith, ints)
 near (negsuc n) a b = omega (arith, ints)
 
@@ -94,8 +94,16 @@ vertex_read : (v : LineVertex) → InRange v → vertex_in (signed_decimal v.x �
 vertex_read v r =
     ap (option_and_then (λ a. option_map (at a) (coordinate_of (signed_decimal v.y)))) (coordinate_read v.x r.0 r.1) ∙ ap (option_map (at v.x)) (coordinate_read v.y r.2 r.3)
 
+-- the words of a vertex
+solid_vertex : (v : LineVertex) → InRange v → AllByRecursion Solid (signed_decimal v.x ∷ signed_decimal v.y ∷ [])
+solid_vertex v r = (solid_signed v.x (near v.x r.0 r.1), (solid_signed v.y (near v.y r.2 r.3), tt))
+
+pub vertex_words : (v : LineVertex) → InRange v → vertex_in (words_of (vertex_text v)) ≡ Some v
+vertex_words v r =
+    ap vertex_in (words_joined (signed_decimal v.x ∷ signed_decimal v.y ∷ []) (are_words (signed_decimal v.x ∷ signed_decimal v.y ∷ []) (solid_vertex v r))) ∙ vertex_read v r
+
 pub vertex_back : (v : LineVertex) → InRange v → Says (vertex_line v) (Vertex v)
 vertex_back v r =
     from_words (vertex_line v) (codes "vertex" ∷ signed_decimal v.x ∷ signed_decimal v.y ∷ []) (Vertex v) refl
-    ((omega arith, printed_codes (codes "vertex") refl), (solid_signed v.x (near v.x r.0 r.1), (solid_signed v.y (near v.y r.2 r.3), tt)))
+    ((omega arith, printed_codes (codes "vertex") refl), solid_vertex v r)
     (ap (λ o. onward (ok_or (option_map Vertex o) VertexNumbers) (λ s. Ok (s ∷ []))) (vertex_read v r))

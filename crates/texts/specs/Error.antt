@@ -8,7 +8,7 @@ use Rattle.texts.specs.declared.error.TextError.TheVariants.{Line, OutOfMemory}
 -- The text of each thing that is expected.
 abbrev pub expected_text : Expected → List ℕ
 -- no line of this form is known
-expected_text Form = codes "measure M, price P, level TOLERANCE WEIGHT, vertex X Y or LINESTRING (X Y, X Y, ...)"
+expected_text Form = codes "measure NAME, price NAME, level TOLERANCE WEIGHT, vertex X Y or LINESTRING (X Y, X Y, ...)"
 -- the line of a measure names none
 expected_text MeasureName = codes "measure segment, measure strip or measure area"
 -- a measure was named before
@@ -18,7 +18,7 @@ expected_text PriceName = codes "price count or price count-area"
 -- a price was named before
 expected_text OnePrice = codes "no second price"
 -- the line of a level has other words than two whole numbers
-expected_text LevelNumbers = codes "level TOLERANCE WEIGHT, two whole numbers"
+expected_text LevelNumbers = codes "level TOLERANCE WEIGHT, two whole numbers up to 4294967295"
 -- the weight is out of range
 expected_text WeightInRange = codes "a weight from 1 to 1000"
 -- the tolerance does not rise

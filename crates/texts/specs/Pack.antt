@@ -3,7 +3,6 @@ use Rattle.std.specs.Prelude.{◌≡◌, ℕ, List, Ok, Err, Result, Vec, vec_it
 use Rattle.packs.specs.Job.{Content, LawfulContent, encoded, job_in}
 use Rattle.texts.specs.Error.{onward}
 use Rattle.texts.specs.Draft.{job_said}
-use Rattle.texts.specs.Text.{job_text}
 use Rattle.writer.specs.Job.{content}
 use Rattle.texts.specs.declared.pack.SaidJob.{SaidJob}
 use Rattle.texts.specs.declared.error.TextError.{TextError}
@@ -30,6 +29,6 @@ PackedAs j (Ok pack) = vec_items pack ≡ encoded j
 PackedAs j (Err (Line n e)) = ⊥
 PackedAs j (Err OutOfMemory) = Unit {0}
 
--- The text of a lawful job is packed as that job.
-abbrev pub GivesJobBack : {A : Type 0} → List ℕ → Result (Vec ℕ A) TextError → Type 0
-GivesJobBack text result = (j : Content) → LawfulContent j → text ≡ job_text j → PackedAs j result
+-- The text of a lawful job, in a form, is packed as that job.
+abbrev pub GivesJobBack : {A : Type 0} → (Content → List ℕ) → List ℕ → Result (Vec ℕ A) TextError → Type 0
+GivesJobBack form text result = (j : Content) → LawfulContent j → text ≡ form j → PackedAs j result

@@ -36,9 +36,23 @@ price_line p = codes "price " ++ price_name p
 abbrev pub level_line : JobLevel → List ℕ
 level_line l = codes "level " ++ (decimal l.tolerance ++ (codes " " ++ decimal l.weight))
 
+-- A vertex: x and y.
+abbrev pub vertex_text : LineVertex → List ℕ
+vertex_text v = signed_decimal v.x ++ (codes " " ++ signed_decimal v.y)
+
 -- The line of a vertex.
 abbrev pub vertex_line : LineVertex → List ℕ
-vertex_line v = codes "vertex " ++ (signed_decimal v.x ++ (codes " " ++ signed_decimal v.y))
+vertex_line v = codes "vertex " ++ vertex_text v
+
+-- Vertices with commas between them.
+abbrev pub vertices_text : List LineVertex → List ℕ
+vertices_text [] = []
+vertices_text (v ∷ []) = vertex_text v
+vertices_text (v ∷ next ∷ vs) = vertex_text v ++ (codes ", " ++ vertices_text (next ∷ vs))
+
+-- The line of all vertices.
+abbrev pub line_string : List LineVertex → List ℕ
+line_string vs = codes "LINESTRING (" ++ (vertices_text vs ++ codes ")")
 
 -- The line that says one thing.
 abbrev pub statement_line : Statement → List ℕ
@@ -54,6 +68,10 @@ job_lines j = measure_line j.measure ∷ (price_line j.price ∷ (map level_line
 -- The text of a job: its lines, each with a line feed behind it.
 abbrev pub job_text : Content → List ℕ
 job_text j = each_with 10 (job_lines j)
+
+-- The text of a job with all its vertices in one line.
+abbrev pub short_text : Content → List ℕ
+short_text j = each_with 10 (measure_line j.measure ∷ (price_line j.price ∷ (map level_line j.levels ++ (line_string j.vertices ∷ []))))
 
 -- A line that says nothing.
 abbrev pub comment : List ℕ → List ℕ

@@ -51,13 +51,15 @@ impl fmt::Display for Expected {
     fn fmt<W: fmt::Write>(&self, f: &mut fmt::Formatter<W>) -> fmt::Result {
         match self {
             Self::Form => f.write_str(
-                "measure M, price P, level TOLERANCE WEIGHT, vertex X Y or LINESTRING (X Y, X Y, ...)",
+                "measure NAME, price NAME, level TOLERANCE WEIGHT, vertex X Y or LINESTRING (X Y, X Y, ...)",
             ),
             Self::MeasureName => f.write_str("measure segment, measure strip or measure area"),
             Self::OneMeasure => f.write_str("no second measure"),
             Self::PriceName => f.write_str("price count or price count-area"),
             Self::OnePrice => f.write_str("no second price"),
-            Self::LevelNumbers => f.write_str("level TOLERANCE WEIGHT, two whole numbers"),
+            Self::LevelNumbers => f.write_str(
+                "level TOLERANCE WEIGHT, two whole numbers up to 4294967295",
+            ),
             Self::WeightInRange => f.write_str("a weight from 1 to 1000"),
             Self::RisingTolerance => f.write_str("a tolerance above that of the level before"),
             Self::ToleranceUpTo(largest) => write!(f, "a tolerance of at most {largest}"),

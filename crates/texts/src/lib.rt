@@ -5,5 +5,7 @@ mod draft;
 pub mod error;
 pub mod pack;
 mod statement;
+#[cfg(test)]
+mod tests;
 mod text;
 pub mod unpack;

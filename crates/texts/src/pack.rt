@@ -3,6 +3,7 @@ ghost use Rattle.std.specs.Prelude.{◌≡◌, Ok, IfOk, MatchResult};
 ghost use Rattle.packs.specs.Job.{LawfulContent, encoded, job_in};
 ghost use Rattle.texts.specs.Error.{Blamed};
 ghost use Rattle.texts.specs.Pack.{said_content, pack_said, SaysLawfully, GivesJobBack};
+ghost use Rattle.texts.specs.Text.{job_text, short_text};
 ghost use Rattle.texts.specs.Draft.{job_said};
 
 use crate::draft::read_lines;
@@ -59,11 +60,12 @@ impl SaidJob {
 }
 
 // Makes the pack of the job that a text says, or answers the first line that is at fault, or that memory ran out.
-#[tactic(auto, using(crate::proofs::Sound::says_lawful, crate::proofs::GivesBack::gives_job_back))]
+#[tactic(auto, using(crate::proofs::GivesBack::gives_job_back, crate::proofs::GivesBack::gives_short_job_back))]
 pub fn pack_text(heap: Global, text: &[u8]) -> Result<Vec<u8>, TextError>
     ensures answer { MatchResult result (λ pack. pack_said text.now ≡ Ok pack.items) (Blamed (pack_said text.now)) }
     ensures lawful { IfOk result (λ pack. SaysLawfully text.now pack.items) }
-    ensures gives_job_back { GivesJobBack text.now result }
+    ensures gives_job_back { GivesJobBack job_text text.now result }
+    ensures gives_short_job_back { GivesJobBack short_text text.now result }
 {
     let job = SaidJob::read(heap, text)?;
     Ok(job.write(heap)?)

@@ -2,7 +2,7 @@ use Rattle.std.proofs.Common.{Ok, sym, ap, ◌∙◌}
 use Rattle.texts.specs.Error.{onward}
 use Rattle.texts.specs.Pack.{said_content}
 use Rattle.packs.specs.Job.{encoded}
-use Rattle.texts.proofs.GivesBack.{gives_job_back}
+use Rattle.texts.proofs.GivesBack.{gives_job_back, gives_short_job_back}
 use Rattle.texts.proofs.Sound.{says_lawful}
 use Rattle.texts.proofs.pack.pack_text.Goals as goal
 
@@ -20,3 +20,7 @@ returns-clause-lawful c = record {
 pub returns-clause-gives_job_back : goal.returns-clause-gives_job_back
 returns-clause-gives_job_back c =
     gives_job_back c.args.text.now (Ok c.in_ok-write.field-0) (ap (λ s. onward s (λ j. Ok (encoded j))) c.in_ok-job.ensures ∙ ap Ok (sym c.in_ok-write.ensures.bytes))
+
+pub returns-clause-gives_short_job_back : goal.returns-clause-gives_short_job_back
+returns-clause-gives_short_job_back c =
+    gives_short_job_back c.args.text.now (Ok c.in_ok-write.field-0) (ap (λ s. onward s (λ j. Ok (encoded j))) c.in_ok-job.ensures ∙ ap Ok (sym c.in_ok-write.ensures.bytes))
