@@ -1,14 +1,16 @@
 #!/usr/bin/env python3
 """Makes the sample lines: a meandering river, a coast, and a path that crosses itself.
 
-Without arguments it writes samples/NAME.txt; with --check it only tells whether they are as it would write them.
+Without arguments it writes samples/NAME.txt, and again where the program `pipeline` reads them; with --check it only tells whether they are as it
+would write them.
 """
 import math
 import random
 import sys
 from pathlib import Path
 
-SAMPLES = Path(__file__).resolve().parent.parent / "samples"
+ROOT = Path(__file__).resolve().parent.parent
+PLACES = [ROOT / "samples", ROOT / "crates" / "pipeline" / "data"]
 
 
 def whole(points):
@@ -90,11 +92,11 @@ def texts():
 def main():
     wrong = []
     for name, text in texts():
-        file = SAMPLES / f"{name}.txt"
-        if "--check" not in sys.argv:
-            file.write_text(text)
-        elif not file.exists() or file.read_text() != text:
-            wrong.append(name)
+        for file in (place / f"{name}.txt" for place in PLACES):
+            if "--check" not in sys.argv:
+                file.write_text(text)
+            elif not file.exists() or file.read_text() != text:
+                wrong.append(str(file))
     if wrong:
         sys.exit("not as written: " + ", ".join(wrong))
 
