@@ -1,5 +1,5 @@
 -- What is read of a valid pack. Assumes nothing.
-use Rattle.std.proofs.Common.{◌≡◌, ℕ, suc, ◌+◌, ◌-◌, ◌^◌, ◌<◌, ◌≤◌, All, List, [], ◌∷◌, ◌++◌, length, get_or, take, drop, map, sum, Ok, Err, Result, sym, refl, ap, ap₂, subst, ◌∙◌, arith}
+use Rattle.std.proofs.Common.{◌≡◌, ℕ, suc, ◌-◌, ◌<◌, ◌≤◌, List, [], ◌++◌, length, get_or, take, drop, map, Ok, Err, Result, sym, refl, ap, ap₂, subst, ◌∙◌, arith}
 use Rattle.std.specs.List.{AllByRecursion, concat}
 use Rattle.std.proofs.ByRecursion.{All-from_get_or, All-weaker}
 use Rattle.std.proofs.lemmas.List.{length-append, length-map, length-drop, take_all, take_at, drop_at}
@@ -8,7 +8,6 @@ use Rattle.std.proofs.lemmas.Bool.Decides.{nat_tests}
 use Rattle.families.specs.Chain.{Chain}
 use Rattle.families.specs.Family.{Family}
 use Rattle.families.proofs.Chains.{chain_length, chain_below}
-use Rattle.lines.specs.Fault.{then}
 use Rattle.lines.specs.Line.{Lawful}
 use Rattle.lines.specs.declared.fault.Fault.{Fault}
 use Rattle.lines.specs.declared.level.Level.{Level}
@@ -21,7 +20,7 @@ use Rattle.packs.specs.declared.job.Job.{Job}
 use Rattle.packs.specs.declared.kind.PriceKind.{PriceKind}
 use Rattle.packs.specs.declared.kind.PriceKind.TheVariants.{Count, CountThenArea}
 use Rattle.packs.proofs.Accepting.{accepts_heads}
-use Rattle.packs.proofs.Answered.{then_made, same_answer}
+use Rattle.packs.proofs.Answered.{same_answer}
 use Rattle.packs.proofs.LittleEndian.{octets_take, octets_drop}
 use Rattle.prices.specs.Count.{count_kind}
 use Rattle.prices.specs.CountThenArea.{count_then_area_kind}

@@ -1,5 +1,5 @@
 -- Links: how long they are, and from which tolerance on they are allowed. Assumes nothing.
-use Rattle.std.specs.Prelude.{◌≡◌, ℕ, ◌+◌, ◌*◌, ◌<◌, ◌≤◌, Bool, T, cond, List, Some, None, Option, max, fold, ◌-ℤ◌, unsigned_abs, slice_index_or}
+use Rattle.std.specs.Prelude.{ℕ, ◌+◌, ◌*◌, ◌<◌, ◌≤◌, Bool, T, cond, List, Some, None, Option, max, fold, ◌-ℤ◌, unsigned_abs, slice_index_or}
 use Rattle.std.specs.List.{list_all}
 use Rattle.lines.specs.Line.{is_link}
 use Rattle.lines.specs.Vertex.{origin}

@@ -1,5 +1,5 @@
 -- Reports as text. Assumes nothing.
-use Rattle.std.specs.Prelude.{ℕ, List, [], ◌∷◌, ◌++◌, codes, decimal, vec_items}
+use Rattle.std.specs.Prelude.{ℕ, List, [], ◌++◌, codes, decimal, vec_items}
 use Rattle.std.specs.List.{flat_map}
 use Rattle.drawings.specs.Text.{ended}
 use Rattle.reports.specs.declared.row.Row.{Row}

@@ -67,25 +67,14 @@ impl<'a> Family<'a> {
     {
         let mut rows = Vec::new(self.heap);
         for (i, level) in self.levels.iter().enumerate() {
-            let row = row_of::<M, P>(
-                self.heap,
-                measure,
-                &self.line,
-                i + 1,
-                *level,
-                self.chain(i),
-            )?;
+            let row = row_of::<M, P>(self.heap, measure, &self.line, i + 1, *level, self.chain(i))?;
             append(&mut rows, row)?;
         }
         Ok(rows)
     }
 
     // The rows under the price with its number, which a `match` turns into a type.
-    fn rows_priced<M: Measure>(
-        &self,
-        measure: &M,
-        price: PriceKind,
-    ) -> Result<Vec<Row>, DrawError>
+    fn rows_priced<M: Measure>(&self, measure: &M, price: PriceKind) -> Result<Vec<Row>, DrawError>
         requires { Lies M.Measure.LARGEST (M.Measure.says measure.now) self.now.line.vertices.now self.now.levels.now self.now.counts.now self.now.numbers.now }
         ensures { Yields (λ rows. TellsPriced price (M.Measure.says measure.now) self.now.line.vertices.now self.now.levels.now (chains_of self.now.counts.now self.now.numbers.now) rows.items) result }
     {

@@ -6,4 +6,6 @@ pub mod link;
 pub mod report;
 pub mod row;
 pub mod share;
+#[cfg(test)]
+mod tests;
 pub mod text;

@@ -83,10 +83,10 @@ pub(crate) fn longest(line: &Line, links: &[(usize, usize)]) -> u64
 pub(crate) fn cost<P: Price>(line: &Line, links: &[(usize, usize)], weight: u32) -> P
     ensures { result ≡ cost P.Price.kind (λ _ i j. P.Price.link line.now.vertices.now i j weight) 0 links.now }
 {
-    links
-        .iter()
-        .rev()
-        .fold(P::neutral(), |sum, l| P::of_link(line, l.0, l.1, weight).join(sum))
+    links.iter().rev().fold(
+        P::neutral(),
+        |sum, l| P::of_link(line, l.0, l.1, weight).join(sum),
+    )
 }
 
 // The links of a chain.

@@ -8,7 +8,8 @@ use std::alloc::{AllocError, Global};
 use std::fmt;
 
 // The head of the table.
-const HEAD: &str = "| Level | Tolerance | Weight | Links | Kept | Share | Longest | Enough | Price | Alone |\n|---|---|---|---|---|---|---|---|---|---|\n";
+const HEAD: &str =
+    "| Level | Tolerance | Weight | Links | Kept | Share | Longest | Enough | Price | Alone |\n|---|---|---|---|---|---|---|---|---|---|\n";
 
 // The line of a row.
 impl fmt::Display for Row {

@@ -1,4 +1,4 @@
-use Rattle.std.proofs.Common.{ℕ, ◌+◌, ◌-◌, ◌/◌, ◌<◌, T, true, sym, ◌∙◌, arith}
+use Rattle.std.proofs.Common.{◌+◌, ◌-◌, ◌/◌, sym, arith}
 use Rattle.std.proofs.lemmas.Bool.{both_ways}
 use Rattle.reports.specs.Link.{allows_all}
 use Rattle.reports.proofs.Links.{from_T, stays}
@@ -16,7 +16,7 @@ loop-low-preserved g c =
       within = inv.within;
       allowed = inv.allowed;
       none_below = λ s below h.
-          both_ways (allows_all says vs links middle) (sym c.if-allows_all.ensures)
+          both_ways (allows_all says vs links middle) (sym {b = allows_all says vs links middle} c.if-allows_all.ensures)
           (stays g.M.Measure.LARGEST says (g.met.M.Measure.rules c.args.measure.now) vs c.args.line.now.lawful links s middle c.loop-low.least (omega arith) (omega arith)
           (from_T _ h) (from_T _ inv.allowed));
     }

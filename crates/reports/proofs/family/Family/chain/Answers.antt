@@ -1,5 +1,5 @@
-use Rattle.std.proofs.Common.{rules, ◌≡◌, ◌+◌, ◌-◌, ◌≤◌, length, get_or, take, drop, ap, ◌∙◌, arith}
-use Rattle.reports.proofs.Chains.{within, chain_lies}
+use Rattle.std.proofs.Common.{◌≡◌, ◌+◌, ◌-◌, get_or, take, drop, ap, ◌∙◌, arith}
+use Rattle.reports.proofs.Chains.{chain_lies}
 use Rattle.reports.proofs.family.Family.chain.Goals as goal
 
 pub returns : goal.returns

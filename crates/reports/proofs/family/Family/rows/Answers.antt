@@ -1,4 +1,4 @@
-use Rattle.std.proofs.Common.{◌≡◌, ℕ, ◌+◌, ◌-◌, ◌<◌, T, List, [], length, get_or, sym, ap, subst, arith}
+use Rattle.std.proofs.Common.{◌≡◌, ◌+◌, ◌-◌, ◌<◌, T, [], length, get_or, sym, ap, subst, arith}
 use Rattle.std.proofs.lemmas.List.{length_push}
 use Rattle.families.specs.Chain.{links}
 use Rattle.lines.specs.Level.{level, level_of}
@@ -6,7 +6,6 @@ use Rattle.marker.specs.Records.{chain_of}
 use Rattle.writer.specs.Family.{chains_of}
 use Rattle.reports.specs.Link.{allows_all}
 use Rattle.reports.specs.Row.{Tells}
-use Rattle.reports.specs.declared.row.Row.{Row}
 use Rattle.reports.proofs.Rows.{all_allowed, told_more}
 use Rattle.reports.proofs.family.Family.rows.Goals as goal
 
@@ -39,7 +38,7 @@ loop-i-preserved g c =
     let e : i ≡ i + 1 - 1 = omega arith in
     let added = c.in_ok-append.ensures in
     let here = subst (λ j. Tells K link says vs (i + 1) (get_or ls j (level 0 0)) (get_or chains j []) row) e
-        (subst (λ xs. Tells K link says vs (i + 1) (get_or ls i (level 0 0)) xs row) c.chain.ensures c.in_ok-row.ensures) in
+    (subst (λ xs. Tells K link says vs (i + 1) (get_or ls i (level 0 0)) xs row) c.chain.ensures c.in_ok-row.ensures) in
     record {
       told = omega (arith, ap length added, length_push before row, c.loop-i.invariant.told);
       each = told_more (λ k r. Tells K link says vs k (level_of ls k) (chain_of chains k) r) before c.append.new.rows.items row i c.loop-i.invariant.told added c.loop-i.invariant.each here;
