@@ -9,3 +9,4 @@ pub mod GivesBack
 pub mod ChainsRead
 pub mod Unpacked
 pub mod LineStrings
+pub mod FirstFault

@@ -1,8 +1,9 @@
 -- Packing a text: what is answered for it. Assumes nothing.
-use Rattle.std.specs.Prelude.{◌≡◌, ℕ, List, Ok, Err, Result, Vec, vec_items}
+use Rattle.std.specs.Prelude.{◌≡◌, ℕ, ◌+◌, ◌-◌, ◌≤◌, List, length, take, Ok, Err, Result, Vec, vec_items}
 use Rattle.packs.specs.Job.{Content, LawfulContent, encoded, job_in}
+use Rattle.words.specs.Lines.{lines_of}
 use Rattle.texts.specs.Error.{onward}
-use Rattle.texts.specs.Draft.{job_said}
+use Rattle.texts.specs.Draft.{Said, nothing, all_said, job_said}
 use Rattle.writer.specs.Job.{content}
 use Rattle.texts.specs.declared.pack.SaidJob.{SaidJob}
 use Rattle.texts.specs.declared.error.TextError.{TextError}
@@ -22,6 +23,17 @@ pub record SaysLawfully (text pack : List ℕ) : Type 0 where
   pub said : job_said text ≡ Ok job
   pub lawful : LawfulContent job
   pub read : job_in pack ≡ Ok job
+
+-- Line n is one of the text, or the line after its last; and the lines before it can be read without a fault.
+pub record NoFaultBefore (text : List ℕ) (n : ℕ) : Type 0 where
+  pub within : (1 ≤ n) × (n ≤ length (lines_of text) + 1)
+  pub said : Said
+  pub before : all_said 1 (take (n - 1) (lines_of text)) nothing ≡ Ok said
+
+-- The line that an error names is the first at fault.
+abbrev pub NamesFirst : List ℕ → TextError → Type 0
+NamesFirst text (Line n e) = NoFaultBefore text n
+NamesFirst text OutOfMemory = Unit {0}
 
 -- The pack is that of a job, unless memory runs out.
 abbrev pub PackedAs : {A : Type 0} → Content → Result (Vec ℕ A) TextError → Type 0

@@ -1,8 +1,8 @@
 // From the text of a job to its pack.
-ghost use Rattle.std.specs.Prelude.{◌≡◌, Ok, IfOk, MatchResult};
+ghost use Rattle.std.specs.Prelude.{◌≡◌, Ok, IfOk, IfErr, MatchResult};
 ghost use Rattle.packs.specs.Job.{LawfulContent, encoded, job_in};
 ghost use Rattle.texts.specs.Error.{Blamed};
-ghost use Rattle.texts.specs.Pack.{said_content, pack_said, SaysLawfully, GivesJobBack};
+ghost use Rattle.texts.specs.Pack.{said_content, pack_said, SaysLawfully, NamesFirst, GivesJobBack};
 ghost use Rattle.texts.specs.Text.{job_text, short_text};
 ghost use Rattle.texts.specs.Draft.{job_said};
 
@@ -60,9 +60,10 @@ impl SaidJob {
 }
 
 // Makes the pack of the job that a text says, or answers the first line that is at fault, or that memory ran out.
-#[tactic(auto, using(crate::proofs::GivesBack::gives_job_back, crate::proofs::GivesBack::gives_short_job_back))]
+#[tactic(auto, using(crate::proofs::FirstFault::names_first, crate::proofs::GivesBack::gives_job_back, crate::proofs::GivesBack::gives_short_job_back))]
 pub fn pack_text(heap: Global, text: &[u8]) -> Result<Vec<u8>, TextError>
     ensures answer { MatchResult result (λ pack. pack_said text.now ≡ Ok pack.items) (Blamed (pack_said text.now)) }
+    ensures names_the_first_fault { IfErr result (NamesFirst text.now) }
     ensures lawful { IfOk result (λ pack. SaysLawfully text.now pack.items) }
     ensures gives_job_back { GivesJobBack job_text text.now result }
     ensures gives_short_job_back { GivesJobBack short_text text.now result }
