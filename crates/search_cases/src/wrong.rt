@@ -81,7 +81,10 @@ fn one_level_after_another(rt: HostRuntime) -> Result<(), Fail> {
     // The least family costs 6.
     let coarse = level(2, 1);
     assert_eq!(&rt; each_alone(fine, coarse), Ok(5));
-    assert_eq!(&rt; coarsest_first(Pins::over(approvals()?, 7), fine, coarse), Ok(8));
+    assert_eq!(&rt;
+        coarsest_first(Pins::over(approvals()?, 7), fine, coarse),
+        Ok(8)
+    );
     // With the coarse level at ten times the weight it costs 26.
     assert_eq!(&rt; finest_first(fine, level(2, 10)), Ok(33));
     Ok(())
