@@ -11,7 +11,7 @@ use Rattle.lines.specs.declared.fault.Fault.{Fault}
 use Rattle.lines.specs.declared.level.Level.{Level}
 use Rattle.lines.specs.declared.vertex.Vertex.{Vertex}
 use Rattle.packs.specs.declared.job.Job.{Job}
-use Rattle.packs.specs.Job.{Content, head_in, AcceptsHeads, summed_up_to}
+use Rattle.packs.specs.Job.{Content, encoded, head_in, AcceptsHeads, summed_up_to}
 use Rattle.packs.proofs.Answered.{then_ok, same_answer}
 use Rattle.marker.specs.Reader.{family_in, ChainFits, FormFits, ReadsWritten}
 use Rattle.marker.proofs.Heads.{HeadRead}
@@ -23,6 +23,7 @@ use Rattle.drawings.specs.declared.drawing.DrawError.{DrawError}
 use Rattle.drawings.specs.declared.drawing.DrawError.TheVariants.{Refused, OutOfMemory}
 use Rattle.drawings.specs.Text.{vertex_text, level_text, total_text}
 use Rattle.texts.specs.Text.{job_lines, job_text, comment, chain_lines, family_lines}
+use Rattle.texts.specs.Error.{onward}
 use Rattle.texts.specs.Draft.{job_said}
 use Rattle.texts.specs.Unpack.{comments_in, comments_text, text_in, RefusedAs, SaysPacked}
 use Rattle.texts.proofs.ChainsRead.{each_append}
@@ -145,7 +146,8 @@ module _ (bs : List ℕ) (job : Job) (end : ℕ) (vs : List Vertex) (ls : List L
             rest = f.2.0;
             lawful = r.lawful;
             begins = f.2.1;
-            said = subst (λ t. job_said t ≡ Ok r.content) written (job_back r.content r.lawful lines (comments_quiet job.vertices job.levels rest lines reads is));
+            packed =
+                ap (λ s. onward s (λ j. Ok (encoded j))) (subst (λ t. job_said t ≡ Ok r.content) written (job_back r.content r.lawful lines (comments_quiet job.vertices job.levels rest lines reads is)));
           }
 
 pub head_refused : (bs : List ℕ) (f : Fault) → Err f ≡ summed_up_to (head_in bs) → text_in bs ≡ Err f

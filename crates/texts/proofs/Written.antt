@@ -13,21 +13,11 @@ use Rattle.lines.proofs.Levels.{complete}
 use Rattle.packs.specs.Job.{LawfulContent, encoded, job_in}
 use Rattle.packs.specs.Kind.{measure_number, price_number, measure_numbered, price_numbered, measure_largest}
 use Rattle.packs.specs.declared.kind.MeasureKind.{MeasureKind}
-use Rattle.packs.specs.declared.kind.MeasureKind.TheVariants.{Segment, Strip, Area}
 use Rattle.packs.specs.declared.kind.PriceKind.{PriceKind}
-use Rattle.packs.specs.declared.kind.PriceKind.TheVariants.{Count, CountThenArea}
+use Rattle.packs.proofs.Accepting.{measure_back, price_back}
 use Rattle.packs.proofs.Answered.{then_made, known_made, same_answer}
 use Rattle.writer.specs.Job.{content, judged_job, job_pack, size_answered, bytes_after, ReadAsJob}
 use Rattle.writer.proofs.Jobs.{pack_length, fits}
-
-measure_back : (me : MeasureKind) → measure_numbered (measure_number me) ≡ Some me
-measure_back Segment = refl
-measure_back Strip = refl
-measure_back Area = refl
-
-price_back : (pr : PriceKind) → price_numbered (price_number pr) ≡ Some pr
-price_back Count = refl
-price_back CountThenArea = refl
 
 measure_same : (a b : MeasureKind) → measure_number a ≡ measure_number b → a ≡ b
 measure_same a b e = let s : ◌≡◌ {A = Option MeasureKind} (Some a) (Some b) = sym (measure_back a) ∙ ap measure_numbered e ∙ measure_back b in cc

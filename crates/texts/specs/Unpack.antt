@@ -8,7 +8,7 @@ use Rattle.words.specs.Lines.{each_with}
 use Rattle.drawings.specs.declared.drawing.DrawError.{DrawError}
 use Rattle.drawings.specs.declared.drawing.DrawError.TheVariants.{Refused, OutOfMemory}
 use Rattle.texts.specs.Text.{job_lines, family_lines}
-use Rattle.texts.specs.Draft.{job_said}
+use Rattle.texts.specs.Pack.{pack_said}
 
 -- The comments of the chains and the total of a family, of a line of n vertices and m levels, or the first fault in the structure of their
 -- records; a job has none. The chains are not judged.
@@ -29,10 +29,10 @@ abbrev pub RefusedAs : {X : Type 0} → Result X Fault → DrawError → Type 0
 RefusedAs due (Refused f) = due ≡ Err f
 RefusedAs due OutOfMemory = Unit {0}
 
--- The bytes begin with the pack of a lawful job, and the text says that job.
+-- The bytes begin with the pack of a lawful job, and packing the text gives that pack.
 pub record SaysPacked (bs text : List ℕ) : Type 0 where
   pub job : Content
   pub rest : List ℕ
   pub lawful : LawfulContent job
   pub begins : bs ≡ encoded job ++ rest
-  pub said : job_said text ≡ Ok job
+  pub packed : pack_said text ≡ Ok (encoded job)
