@@ -33,7 +33,7 @@ use Rattle.marker.specs.declared.reader.Claim.{Claim}
 use Rattle.marker.proofs.Reading.{reads_written}
 use Rattle.writer.specs.Family.{chains_of}
 use Rattle.writer.proofs.Chains.{chains_back, sum_lengths}
-use Rattle.reports.specs.Family.{Lies}
+use Rattle.reports.specs.Family.{EndToEnd}
 use Rattle.reports.specs.Row.{TellsPriced}
 use Rattle.reports.specs.declared.row.Row.{Row}
 
@@ -145,11 +145,11 @@ module _ (bs : List ℕ) (octets : Octets bs) (f : ℕ × ℕ) (v : ValidPack bs
   pub chains_here : (count claimed : ℕ) (numbers counts : List ℕ) → ChainsRead count claimed numbers counts → chains_of (take count counts) (take claimed numbers) ≡ v.chains
   chains_here count claimed numbers counts r = ap₂ chains_of r.counts_are r.numbers_are ∙ chains_back v.chains
 
-  pub lies : (job : Job) (end : ℕ) (vs : List Vertex) (ls : List Level) → HeadRead job end vs ls → (count claimed : ℕ) (numbers counts : List ℕ) → ChainsRead count claimed numbers counts →
-      Lies (measure_largest job.measure) (measure_says job.measure) (take job.vertices vs) (take job.levels ls) (take count counts) (take claimed numbers)
-  lies job end vs ls h count claimed numbers counts r =
+  pub end_to_end : (job : Job) (end : ℕ) (vs : List Vertex) (ls : List Level) → HeadRead job end vs ls → (count claimed : ℕ) (numbers counts : List ℕ) → ChainsRead count claimed numbers counts →
+      EndToEnd (measure_largest job.measure) (measure_says job.measure) (take job.vertices vs) (take job.levels ls) (take count counts) (take claimed numbers)
+  end_to_end job end vs ls h count claimed numbers counts r =
       let me : job.measure ≡ v.job.measure = ap (λ j. j.measure) h.job_is in
-      let here : Lies (measure_largest v.job.measure) (measure_says v.job.measure) v.job.vertices v.job.levels (map length v.chains) (concat v.chains) = record {
+      let here : EndToEnd (measure_largest v.job.measure) (measure_says v.job.measure) v.job.vertices v.job.levels (map length v.chains) (concat v.chains) = record {
         levels_lawful = v.lawful.levels_lawful;
         one_each = length-map v.chains length ∙ v.chain_count;
         inside = omega (arith, sum_lengths v.chains);

@@ -1,4 +1,4 @@
--- A family that lies in memory. Assumes nothing.
+-- A family whose chains stand end to end. Assumes nothing.
 use Rattle.std.specs.Prelude.{◌≡◌, ℕ, ◌≤◌, List, length, sum}
 use Rattle.families.specs.Family.{Family}
 use Rattle.lines.specs.Level.{LawfulLevels}
@@ -9,7 +9,7 @@ use Rattle.marker.specs.Records.{chain_of}
 use Rattle.writer.specs.Family.{chains_of}
 
 -- The numbers are the chains of a family end to end, one for each level, and the counts tell how many vertices each has.
-pub record Lies (largest : ℕ) (says : Answer) (vs : List Vertex) (ls : List Level) (counts numbers : List ℕ) : Type 0 where
+pub record EndToEnd (largest : ℕ) (says : Answer) (vs : List Vertex) (ls : List Level) (counts numbers : List ℕ) : Type 0 where
   pub levels_lawful : LawfulLevels largest ls
   pub one_each : length counts ≡ length ls
   pub inside : sum counts ≤ length numbers

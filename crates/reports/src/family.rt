@@ -3,7 +3,7 @@ ghost use Rattle.std.specs.Prelude.{◌≡◌, ◌<◌, ◌≤◌, ◌^◌, [], 
 ghost use Rattle.packs.specs.Kind.{measure_largest};
 ghost use Rattle.marker.specs.Pack.{measure_says};
 ghost use Rattle.writer.specs.Family.{chains_of};
-ghost use Rattle.reports.specs.Family.{Lies};
+ghost use Rattle.reports.specs.Family.{EndToEnd};
 ghost use Rattle.reports.specs.Row.{TellsAll, TellsPriced};
 ghost use Rattle.reports.specs.Yields.{Yields};
 
@@ -62,7 +62,7 @@ impl<'a> Family<'a> {
 
     // The rows of all levels.
     fn rows<M: Measure, P: Price>(&self, measure: &M) -> Result<Vec<Row>, DrawError>
-        requires { Lies M.Measure.LARGEST (M.Measure.says measure.now) self.now.line.vertices.now self.now.levels.now self.now.counts.now self.now.numbers.now }
+        requires { EndToEnd M.Measure.LARGEST (M.Measure.says measure.now) self.now.line.vertices.now self.now.levels.now self.now.counts.now self.now.numbers.now }
         ensures { Yields (λ rows. TellsAll P.Price.kind P.Price.link (M.Measure.says measure.now) self.now.line.vertices.now self.now.levels.now (chains_of self.now.counts.now self.now.numbers.now) rows.items) result }
     {
         let mut rows = Vec::new(self.heap);
@@ -75,7 +75,7 @@ impl<'a> Family<'a> {
 
     // The rows under the price with its number, which a `match` turns into a type.
     fn rows_priced<M: Measure>(&self, measure: &M, price: PriceKind) -> Result<Vec<Row>, DrawError>
-        requires { Lies M.Measure.LARGEST (M.Measure.says measure.now) self.now.line.vertices.now self.now.levels.now self.now.counts.now self.now.numbers.now }
+        requires { EndToEnd M.Measure.LARGEST (M.Measure.says measure.now) self.now.line.vertices.now self.now.levels.now self.now.counts.now self.now.numbers.now }
         ensures { Yields (λ rows. TellsPriced price (M.Measure.says measure.now) self.now.line.vertices.now self.now.levels.now (chains_of self.now.counts.now self.now.numbers.now) rows.items) result }
     {
         match price {
@@ -90,7 +90,7 @@ impl<'a> Family<'a> {
         measure: MeasureKind,
         price: PriceKind,
     ) -> Result<Vec<Row>, DrawError>
-        requires { Lies (measure_largest measure) (measure_says measure) self.now.line.vertices.now self.now.levels.now self.now.counts.now self.now.numbers.now }
+        requires { EndToEnd (measure_largest measure) (measure_says measure) self.now.line.vertices.now self.now.levels.now self.now.counts.now self.now.numbers.now }
         ensures { Yields (λ rows. TellsPriced price (measure_says measure) self.now.line.vertices.now self.now.levels.now (chains_of self.now.counts.now self.now.numbers.now) rows.items) result }
     {
         match measure {

@@ -4,7 +4,7 @@ ghost use Rattle.lines.specs.Line.{Lawful};
 ghost use Rattle.packs.specs.Kind.{measure_largest};
 ghost use Rattle.marker.specs.Pack.{measure_says};
 ghost use Rattle.writer.specs.Family.{chains_of};
-ghost use Rattle.reports.specs.Family.{Lies};
+ghost use Rattle.reports.specs.Family.{EndToEnd};
 ghost use Rattle.reports.specs.Report.{Reports};
 ghost use Rattle.reports.specs.Row.{TellsPriced};
 ghost use Rattle.reports.specs.Yields.{Yields};
@@ -38,7 +38,7 @@ fn rows_of(
 ) -> Result<Vec<Row>, DrawError>
     requires few { (job.vertices ≤ 256) × (job.levels ≤ 8) }
     requires line { Lawful (take job.vertices place.now.vertices) }
-    requires family { Lies (measure_largest job.measure) (measure_says job.measure) (take job.vertices place.now.vertices) (take job.levels place.now.levels) counts.now numbers.now }
+    requires family { EndToEnd (measure_largest job.measure) (measure_says job.measure) (take job.vertices place.now.vertices) (take job.levels place.now.levels) counts.now numbers.now }
     ensures { Yields (λ rows. TellsPriced job.price (measure_says job.measure) (take job.vertices place.now.vertices) (take job.levels place.now.levels) (chains_of counts.now numbers.now) rows.items) result }
 {
     let mut line = Line::built_in();

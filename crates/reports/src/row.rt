@@ -17,7 +17,8 @@ use prices::price::Price;
 use search::least::find_least;
 use std::alloc::Global;
 
-// What a level of a family keeps, and what it costs; both prices are forms.
+// What a level of a family keeps, and what it costs. The share is per mille, the length of the longest link is rounded down, and enough is the
+// least tolerance at which all links are allowed. The price is the form of what the links cost; alone is that of the least total of this level alone.
 #[derive(Clone, Copy, PartialEq, Eq, Debug)]
 pub struct Row {
     pub level: usize,

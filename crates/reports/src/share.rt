@@ -2,7 +2,7 @@
 ghost use Rattle.std.specs.Prelude.{◌≡◌};
 ghost use Rattle.reports.specs.Share.{share};
 
-// How many vertices in a thousand are kept, rounded down, where so many of n are. Of none, 0 are; and the largest number is the most.
+// How many vertices in a thousand are kept, rounded down, where so many of n are: 0 where n is 0, and at most the largest number.
 pub fn share(kept: usize, n: usize) -> usize
     ensures { result ≡ share kept n }
 {

@@ -1,6 +1,6 @@
 use Rattle.std.proofs.Common.{rules, ◌≡◌, ◌-◌, ◌≤◌, length, vec_items, sym, ap, arith}
 use Rattle.packs.specs.Bytes.{Octets}
-use Rattle.reports.proofs.Valid.{head_read, chains_read, line_lawful, lies, told, not_refused}
+use Rattle.reports.proofs.Valid.{head_read, chains_read, line_lawful, end_to_end, told, not_refused}
 use Rattle.reports.proofs.report.report_pack.Goals as goal
 
 pub slice_bounds-read_chains-count : goal.slice_bounds-read_chains-count
@@ -89,7 +89,7 @@ rows_of-requires-clause-family c =
     let r = chains_read bs octets f v job.vertices job.levels end kn lm h.end_is claim read.numbers _ read.counts _ c.in_ok-claim.ensures.answer c.read_chains.ensures.numbers c.read_chains.ensures.counts in
     let all_counts : job.levels - 0 ≡ job.levels = omega arith in
     let all_numbers : claim.vertices - 0 ≡ claim.vertices = omega arith in
-    rw (all_counts, all_numbers) (lies bs octets f v job end place.vertices place.levels h job.levels claim.vertices read.numbers read.counts r)
+    rw (all_counts, all_numbers) (end_to_end bs octets f v job end place.vertices place.levels h job.levels claim.vertices read.numbers read.counts r)
 
 pub returns : goal.returns
 returns c =
