@@ -225,6 +225,7 @@ fn tolerances_up_to_the_largest(rt: HostRuntime) -> Result<(), Fail> {
     for (measure, tolerance) in [
         ("segment", 32_768),
         ("strip", 32_768),
+        ("area", 32_769),
         ("area", 2_147_483_647),
     ] {
         let text = format!(in heap;
