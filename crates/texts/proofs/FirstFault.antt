@@ -1,7 +1,7 @@
 -- The line that is named is the first that is at fault. Assumes nothing.
-use Rattle.std.proofs.Common.{◌≡◌, ℕ, zero, suc, ◌+◌, ◌-◌, ◌<◌, ◌≤◌, Bool, true, false, cond, eqb, ltb, List, [], ◌∷◌, ◌++◌, length, take, drop, Some, None, Ok, Err, Option, Result, Vec, vec_items, sym, refl, ap, subst, ◌∙◌, arith}
+use Rattle.std.proofs.Common.{◌≡◌, ℕ, zero, suc, ◌+◌, ◌-◌, ◌<◌, ◌≤◌, Bool, true, false, cond, eqb, ltb, List, [], ◌∷◌, ◌++◌, length, take, Some, None, Ok, Err, Option, Result, Vec, vec_items, sym, refl, ap, subst, ◌∙◌, arith}
 use Rattle.std.specs.Prelude.{MatchResult, IfErr, ok_or}
-use Rattle.std.specs.List.{All, AllByRecursion}
+use Rattle.std.specs.List.{AllByRecursion}
 use Rattle.std.proofs.lemmas.List.{take_all}
 use Rattle.packs.specs.Job.{Content, encoded}
 use Rattle.packs.specs.Kind.{measure_largest}
@@ -11,8 +11,8 @@ use Rattle.lines.specs.declared.level.Level.{Level as JobLevel}
 use Rattle.words.specs.Lines.{lines_of}
 use Rattle.texts.specs.Error.{onward, at_line, Blamed}
 use Rattle.texts.specs.Statement.{statements_in}
-use Rattle.texts.specs.Draft.{Said, nothing, numbered, rises, with_measure, with_price, with_level, with_vertex, taken, all_taken, all_said, none_above, counted, whole, job_said}
-use Rattle.texts.specs.Pack.{pack_said, NoFaultBefore, NamesFirst}
+use Rattle.texts.specs.Draft.{Said, nothing, numbered, rises, with_measure, with_price, taken, all_taken, all_said, none_above, counted, whole, job_said}
+use Rattle.texts.specs.Pack.{pack_said, NamesFirst}
 use Rattle.texts.specs.declared.draft.LevelLine.{LevelLine}
 use Rattle.texts.specs.declared.error.Expected.{Expected}
 use Rattle.texts.specs.declared.error.Expected.TheVariants.{ToleranceUpTo, FewLevels, RisingTolerance, FewVertices, SomeMeasure, SomePrice, SomeLevel, TwoVertices}
