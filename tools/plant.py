@@ -101,7 +101,7 @@ def draw(crate, start):
         text = file.read_text()
         lines = text.split("\n")
         for name, public, body in bodies(text):
-            fitting = sorted(set(bugs(lines, body)))
+            fitting = sorted({bug for bug in bugs(lines, body) if bug[2] != lines[bug[1]]})
             chance.shuffle(fitting)
             kinds, first, later = set(), [], []
             for bug in fitting:
