@@ -30,11 +30,11 @@ pub record Drawable (largest : ℕ) (ls : List Level) : Type 0 where
   pub count : (1 ≤ length ls) × (length ls ≤ 8)
   pub levels_lawful : LawfulLevels largest ls
 
--- A drawing is made and shows what it should, or memory runs out; nothing is refused.
-abbrev pub Made : (Drawing → Type 0) → Result Drawing DrawError → Type 0
-Made Shown (Ok d) = Shown d
-Made Shown (Err (Refused f)) = ⊥
-Made Shown (Err OutOfMemory) = Unit {0}
+-- A value is made and is what it should be, or memory runs out; nothing is refused.
+abbrev pub Made : {X : Type 0} → (X → Type 0) → Result X DrawError → Type 0
+Made Right (Ok x) = Right x
+Made Right (Err (Refused f)) = ⊥
+Made Right (Err OutOfMemory) = Unit {0}
 
 -- The drawing shows the first least family under the price with a number.
 abbrev pub ShowsPriced : PriceKind → Answer → List Vertex → List Level → Drawing → Type 0

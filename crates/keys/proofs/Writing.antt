@@ -29,7 +29,7 @@ use Rattle.packs.proofs.Answered.{same_answer}
 use Rattle.marker.specs.Records.{chain_of, family_records}
 use Rattle.marker.specs.Pack.{measure_says, pack_marked, total_form, ValidPack}
 use Rattle.marker.proofs.Packs.{marks_packs}
-use Rattle.drawings.specs.Pack.{Shows, ShowsPriced, Drawable, Drawn}
+use Rattle.drawings.specs.Pack.{Shows, ShowsPriced, Drawable, Made, Drawn}
 use Rattle.drawings.specs.declared.drawing.Drawing.{Drawing}
 use Rattle.drawings.specs.declared.drawing.DrawError.{DrawError}
 use Rattle.drawings.specs.declared.drawing.DrawError.TheVariants.{Refused, OutOfMemory}
@@ -41,7 +41,7 @@ use Rattle.writer.proofs.Counts.{counts_fit}
 use Rattle.writer.proofs.Chains.{chains_back, sum_lengths}
 use Rattle.writer.proofs.Families.{fits}
 use Rattle.writer.proofs.JobTrips.{judged_back}
-use Rattle.keys.specs.Key.{chains_to, chains_off, drawing_records, Written, Keys}
+use Rattle.keys.specs.Key.{chains_to, chains_off, drawing_records, Keys}
 use Rattle.keys.proofs.Octets.{octets_append, octets_family}
 use Rattle.keys.proofs.ChainLists.{length_to, at_to, joined_few}
 
@@ -202,7 +202,7 @@ module _ (bs : List ℕ) (job : Job) (vs : List Vertex) (ls : List Level) (h : J
       ap₂ (λ x y. encoded (content x y (take job.vertices vs) (take job.levels ls))) me pr ∙
       ap₂ (λ x y. encoded (content h.content.measure h.content.price x y)) h.vertices_read h.levels_read ∙ sym h.bytes
 
-  pub key_of : {A : Type 0} (k : Result (Vec ℕ A) DrawError) → Octets bs → Written (encoded (content job.measure job.price (take job.vertices vs) (take job.levels ls)) ++ drawing_records d) k → Keys bs k
+  pub key_of : {A : Type 0} (k : Result (Vec ℕ A) DrawError) → Octets bs → Made (λ pack. vec_items pack ≡ encoded (content job.measure job.price (take job.vertices vs) (take job.levels ls)) ++ drawing_records d) k → Keys bs k
   key_of (Ok pack) o w =
       let e : vec_items pack ≡ bs ++ drawing_records d = w ∙ ap (λ xs. xs ++ drawing_records d) same_bytes in
       let octets = subst Octets (sym e) (octets_append bs (drawing_records d) o (octets_family (chains_off d.levels (vec_items d.stays)) d.form)) in

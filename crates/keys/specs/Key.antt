@@ -22,12 +22,6 @@ chains_off m stays = chains_to m (read_off (λ v. slice_index stays v) (length s
 abbrev pub drawing_records : Drawing → List ℕ
 drawing_records d = family_records (chains_off d.levels (vec_items d.stays)) d.form
 
--- The bytes are written, or memory runs out; nothing is refused.
-abbrev pub Written : {A : Type 0} → List ℕ → Result (Vec ℕ A) DrawError → Type 0
-Written bs (Ok pack) = vec_items pack ≡ bs
-Written bs (Err (Refused f)) = ⊥
-Written bs (Err OutOfMemory) = Unit {0}
-
 -- The pack is the key of a job pack: the job's bytes, and then the records of its first least family and of the total; and the marker
 -- finds it valid, with that total.
 pub record KeyOf (bs pack : List ℕ) : Type 0 where

@@ -6,8 +6,8 @@ ghost use Rattle.packs.specs.Kind.{measure_largest};
 ghost use Rattle.packs.specs.Job.{encoded};
 ghost use Rattle.marker.specs.Pack.{measure_says};
 ghost use Rattle.writer.specs.Job.{content};
-ghost use Rattle.drawings.specs.Pack.{Drawable, ShowsPriced};
-ghost use Rattle.keys.specs.Key.{chains_off, drawing_records, Written, Keys};
+ghost use Rattle.drawings.specs.Pack.{Drawable, ShowsPriced, Made};
+ghost use Rattle.keys.specs.Key.{chains_off, drawing_records, Keys};
 
 use drawings::drawing::{DrawError, Drawing};
 use drawings::memory::filled;
@@ -44,7 +44,7 @@ fn append(numbers: &mut Vec<u16>, chain: &[usize]) -> Result<(), AllocError>
 }
 
 // The chains of m levels, read off the stays of a line.
-fn read_chains(heap: Global, stays: &[u8], m: usize) -> Result<Chains, AllocError>
+fn chains_off(heap: Global, stays: &[u8], m: usize) -> Result<Chains, AllocError>
     requires { length stays.now ≤ 256 }
     ensures numbers { IfOk result (λ chains. chains.numbers.items ≡ concat (chains_off m stays.now)) }
     ensures counts { IfOk result (λ chains. chains.counts.items ≡ map length (chains_off m stays.now)) }
@@ -70,9 +70,9 @@ fn write_drawn(
 ) -> Result<Vec<u8>, DrawError>
     requires levels { Drawable (measure_largest measure) levels.now }
     requires shown { ShowsPriced price (measure_says measure) line.now.vertices.now levels.now drawing.now }
-    ensures { Written (encoded (content measure price line.now.vertices.now levels.now) ++ drawing_records drawing.now) result }
+    ensures { Made (λ pack. pack.items ≡ encoded (content measure price line.now.vertices.now levels.now) ++ drawing_records drawing.now) result }
 {
-    let chains = read_chains(heap, drawing.stays.as_slice(), drawing.levels)?;
+    let chains = chains_off(heap, drawing.stays.as_slice(), drawing.levels)?;
     let family = Family {
         chains: chains.numbers.as_slice(),
         counts: chains.counts.as_slice(),
@@ -97,7 +97,7 @@ fn write_key(heap: Global, place: &Place, job: Job, drawing: &Drawing) -> Result
     requires line { Lawful (take job.vertices place.now.vertices) }
     requires levels { Drawable (measure_largest job.measure) (take job.levels place.now.levels) }
     requires shown { ShowsPriced job.price (measure_says job.measure) (take job.vertices place.now.vertices) (take job.levels place.now.levels) drawing.now }
-    ensures { Written (encoded (content job.measure job.price (take job.vertices place.now.vertices) (take job.levels place.now.levels)) ++ drawing_records drawing.now) result }
+    ensures { Made (λ pack. pack.items ≡ encoded (content job.measure job.price (take job.vertices place.now.vertices) (take job.levels place.now.levels)) ++ drawing_records drawing.now) result }
 {
     let n = job.vertices;
     let m = job.levels;

@@ -1,6 +1,5 @@
 pub mod Share
 pub mod Link
-pub mod Yields
 pub mod Family
 pub mod Row
 pub mod Report

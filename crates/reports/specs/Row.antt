@@ -1,6 +1,6 @@
 -- The rows of a report: what each level of a family keeps, and what it costs. Assumes nothing.
 use Rattle.std.specs.Prelude.{◌≡◌, ℕ, ◌-◌, ◌≤◌, List, [], ◌∷◌, length, Some, slice_get}
-use Rattle.families.specs.Price.{Kind}
+use Rattle.families.specs.Price.{Kind, NotDearer}
 use Rattle.families.specs.Chain.{links}
 use Rattle.families.specs.Family.{cost}
 use Rattle.families.specs.Least.{L}
@@ -44,6 +44,9 @@ module _ {P : Type 0} (K : Kind P) (link : LinkPrice P) (says : Answer) (vs : Li
   pub record TellsAll (ls : List Level) (chains : List (List ℕ)) (rows : List Row) : Type 0 where
     pub one_each : length rows ≡ length ls
     pub each : (k : ℕ) (row : Row) → 1 ≤ k → slice_get rows (k - 1) ≡ Some row → Tells k (level_of ls k) (chain_of chains k) row
+    -- no level costs less within the family than it would alone
+    pub alone_no_dearer : (k : ℕ) → 1 ≤ k → k ≤ length ls →
+        NotDearer K (least_alone (level_of ls k)) (cost K (λ _ i j. link vs i j (level_of ls k).weight) 0 (links (chain_of chains k)))
 
 -- The same under the price with a number.
 abbrev pub TellsPriced : PriceKind → Answer → List Vertex → List Level → List (List ℕ) → List Row → Type 0

@@ -5,7 +5,7 @@ ghost use Rattle.marker.specs.Pack.{measure_says};
 ghost use Rattle.writer.specs.Family.{chains_of};
 ghost use Rattle.reports.specs.Family.{EndToEnd};
 ghost use Rattle.reports.specs.Row.{TellsAll, TellsPriced};
-ghost use Rattle.reports.specs.Yields.{Yields};
+ghost use Rattle.drawings.specs.Pack.{Made};
 
 use crate::row::{Row, row_of};
 use drawings::drawing::DrawError;
@@ -20,14 +20,6 @@ use prices::count::Count;
 use prices::count_then_area::CountThenArea;
 use prices::price::Price;
 use std::alloc::{AllocError, Global};
-
-// Adds a row.
-fn append(rows: &mut Vec<Row>, row: Row) -> Result<(), AllocError>
-    ensures { IfOk result (λ _. rows.new.items ≡ rows.old.items ++ (row ∷ [])) }
-{
-    rows.push(row)?;
-    Ok(())
-}
 
 // How many vertices chains have together.
 fn total(counts: &[usize]) -> usize
@@ -63,12 +55,12 @@ impl<'a> Family<'a> {
     // The rows of all levels.
     fn rows<M: Measure, P: Price>(&self, measure: &M) -> Result<Vec<Row>, DrawError>
         requires { EndToEnd M.Measure.LARGEST (M.Measure.says measure.now) self.now.line.vertices.now self.now.levels.now self.now.counts.now self.now.numbers.now }
-        ensures { Yields (λ rows. TellsAll P.Price.kind P.Price.link (M.Measure.says measure.now) self.now.line.vertices.now self.now.levels.now (chains_of self.now.counts.now self.now.numbers.now) rows.items) result }
+        ensures { Made (λ rows. TellsAll P.Price.kind P.Price.link (M.Measure.says measure.now) self.now.line.vertices.now self.now.levels.now (chains_of self.now.counts.now self.now.numbers.now) rows.items) result }
     {
         let mut rows = Vec::new(self.heap);
         for (i, level) in self.levels.iter().enumerate() {
             let row = row_of::<M, P>(self.heap, measure, &self.line, i + 1, *level, self.chain(i))?;
-            append(&mut rows, row)?;
+            rows.push(row).map_err(AllocError::from)?;
         }
         Ok(rows)
     }
@@ -76,7 +68,7 @@ impl<'a> Family<'a> {
     // The rows under the price with its number, which a `match` turns into a type.
     fn rows_priced<M: Measure>(&self, measure: &M, price: PriceKind) -> Result<Vec<Row>, DrawError>
         requires { EndToEnd M.Measure.LARGEST (M.Measure.says measure.now) self.now.line.vertices.now self.now.levels.now self.now.counts.now self.now.numbers.now }
-        ensures { Yields (λ rows. TellsPriced price (M.Measure.says measure.now) self.now.line.vertices.now self.now.levels.now (chains_of self.now.counts.now self.now.numbers.now) rows.items) result }
+        ensures { Made (λ rows. TellsPriced price (M.Measure.says measure.now) self.now.line.vertices.now self.now.levels.now (chains_of self.now.counts.now self.now.numbers.now) rows.items) result }
     {
         match price {
             PriceKind::Count => self.rows::<M, Count>(measure),
@@ -91,7 +83,7 @@ impl<'a> Family<'a> {
         price: PriceKind,
     ) -> Result<Vec<Row>, DrawError>
         requires { EndToEnd (measure_largest measure) (measure_says measure) self.now.line.vertices.now self.now.levels.now self.now.counts.now self.now.numbers.now }
-        ensures { Yields (λ rows. TellsPriced price (measure_says measure) self.now.line.vertices.now self.now.levels.now (chains_of self.now.counts.now self.now.numbers.now) rows.items) result }
+        ensures { Made (λ rows. TellsPriced price (measure_says measure) self.now.line.vertices.now self.now.levels.now (chains_of self.now.counts.now self.now.numbers.now) rows.items) result }
     {
         match measure {
             MeasureKind::Segment => self.rows_priced(&Segment, price),

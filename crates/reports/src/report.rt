@@ -7,19 +7,16 @@ ghost use Rattle.writer.specs.Family.{chains_of};
 ghost use Rattle.reports.specs.Family.{EndToEnd};
 ghost use Rattle.reports.specs.Report.{Reports};
 ghost use Rattle.reports.specs.Row.{TellsPriced};
-ghost use Rattle.reports.specs.Yields.{Yields};
+ghost use Rattle.drawings.specs.Pack.{Made};
 
 use crate::family::Family;
 use crate::row::Row;
 use drawings::drawing::DrawError;
 use lines::line::Line;
-use marker::pack::mark_pack;
-use marker::place::ChainPlace;
-use marker::reader::read_chains;
 use packs::job::Job;
 use packs::place::Place;
-use packs::reader::read_family_head;
 use std::alloc::Global;
+use valid::family::read_valid;
 
 // A row for each level of a family, level 1 first, and the form of its total.
 #[derive(Drop)]
@@ -39,7 +36,7 @@ fn rows_of(
     requires few { (job.vertices ≤ 256) × (job.levels ≤ 8) }
     requires line { Lawful (take job.vertices place.now.vertices) }
     requires family { EndToEnd (measure_largest job.measure) (measure_says job.measure) (take job.vertices place.now.vertices) (take job.levels place.now.levels) counts.now numbers.now }
-    ensures { Yields (λ rows. TellsPriced job.price (measure_says job.measure) (take job.vertices place.now.vertices) (take job.levels place.now.levels) (chains_of counts.now numbers.now) rows.items) result }
+    ensures { Made (λ rows. TellsPriced job.price (measure_says job.measure) (take job.vertices place.now.vertices) (take job.levels place.now.levels) (chains_of counts.now numbers.now) rows.items) result }
 {
     let mut line = Line::built_in();
     line.make(&place.vertices[0..job.vertices])?;
@@ -57,17 +54,16 @@ fn rows_of(
 pub fn report_pack(heap: Global, bytes: &[u8]) -> Result<Report, DrawError>
     ensures { Reports bytes.now result }
 {
-    let total = mark_pack(bytes)?;
-    let mut place = Place::blank();
-    let (job, end) = read_family_head(bytes, &mut place)?;
-    let mut chains = ChainPlace::blank();
-    let claim = read_chains(&bytes[end..], job.vertices, job.levels, &mut chains)?;
+    let family = read_valid(bytes)?;
     let rows = rows_of(
         heap,
-        &place,
-        job,
-        &chains.numbers[0..claim.vertices],
-        &chains.counts[0..job.levels],
+        &family.place,
+        family.job,
+        &family.chains.numbers[0..family.vertices],
+        &family.chains.counts[0..family.job.levels],
     )?;
-    Ok(Report { rows, total })
+    Ok(Report {
+        rows,
+        total: family.total,
+    })
 }

@@ -4,7 +4,7 @@ ghost use Rattle.families.specs.Chain.{links};
 ghost use Rattle.lines.specs.Level.{LawfulLevels};
 ghost use Rattle.reports.specs.Link.{allows_all};
 ghost use Rattle.reports.specs.Row.{least_alone, Tells};
-ghost use Rattle.reports.specs.Yields.{Yields};
+ghost use Rattle.drawings.specs.Pack.{Made};
 
 use crate::link::{cost, least_within, links_of, longest};
 use crate::share::share;
@@ -41,7 +41,7 @@ fn least_alone<M: Measure, P: Price>(
     level: Level,
 ) -> Result<P, DrawError>
     requires { LawfulLevels M.Measure.LARGEST (level ∷ []) }
-    ensures { Yields (λ sum. sum ≡ least_alone P.Price.kind P.Price.link (M.Measure.says measure.now) line.now.vertices.now level) result }
+    ensures { Made (λ sum. sum ≡ least_alone P.Price.kind P.Price.link (M.Measure.says measure.now) line.now.vertices.now level) result }
 {
     let n = line.count();
     let mut grades = filled(heap, n * n, 0u8)?;
@@ -69,7 +69,7 @@ pub(crate) fn row_of<M: Measure, P: Price>(
 ) -> Result<Row, DrawError>
     requires lawful { LawfulLevels M.Measure.LARGEST (level ∷ []) }
     requires allowed { T (allows_all (M.Measure.says measure.now) line.now.vertices.now (links chain.now) level.tolerance) }
-    ensures { Yields (Tells P.Price.kind P.Price.link (M.Measure.says measure.now) line.now.vertices.now k level chain.now) result }
+    ensures { Made (Tells P.Price.kind P.Price.link (M.Measure.says measure.now) line.now.vertices.now k level chain.now) result }
 {
     let found = links_of(heap, chain)?;
     let links = found.as_slice();

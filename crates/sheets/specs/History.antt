@@ -31,6 +31,7 @@ pub record History (P : Type 0) : Type 0 where
   pub answers : List (Answer P)
   pub done : ℕ
 
+-- What became of calls on a sheet with settings at the start: their answers, and how many were performed.
 abbrev pub history : {P : Type 0} → Settings → List Call → List (Answer P) → ℕ → History P
 history start calls answers done = record { start = start; calls = calls; answers = answers; done = done }
 

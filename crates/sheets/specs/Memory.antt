@@ -20,6 +20,7 @@ pub record Memory (P : Type 0) : Type 0 where
   pub prices : List P
   pub stays : List ℕ
 
+-- The memory of these grades, prices and stays.
 abbrev pub memory_of : {P : Type 0} → List ℕ → List P → List ℕ → Memory P
 memory_of grades prices stays = record { grades = grades; prices = prices; stays = stays }
 

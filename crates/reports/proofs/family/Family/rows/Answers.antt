@@ -1,4 +1,4 @@
-use Rattle.std.proofs.Common.{◌≡◌, ◌+◌, ◌-◌, ◌<◌, T, [], length, get_or, sym, ap, subst, arith}
+use Rattle.std.proofs.Common.{rules, ◌≡◌, ◌+◌, ◌-◌, ◌<◌, T, [], ◌∷◌, ◌++◌, length, get_or, sym, ap, subst, arith}
 use Rattle.std.proofs.lemmas.List.{length_push}
 use Rattle.families.specs.Chain.{links}
 use Rattle.lines.specs.Level.{level, level_of}
@@ -6,6 +6,7 @@ use Rattle.marker.specs.Records.{chain_of}
 use Rattle.writer.specs.Family.{chains_of}
 use Rattle.reports.specs.Link.{allows_all}
 use Rattle.reports.specs.Row.{Tells}
+use Rattle.reports.proofs.Alone.{alone_no_dearer}
 use Rattle.reports.proofs.Rows.{all_allowed, told_more}
 use Rattle.reports.proofs.family.Family.rows.Goals as goal
 
@@ -36,10 +37,19 @@ loop-i-preserved g c =
     let before = c.loop-i.rows.items in
     let row = c.in_ok-row.row in
     let e : i ≡ i + 1 - 1 = omega arith in
-    let added = c.in_ok-append.ensures in
+    let added : c.push.new.self.items ≡ before ++ (row ∷ []) = search rules in
     let here = subst (λ j. Tells K link says vs (i + 1) (get_or ls j (level 0 0)) (get_or chains j []) row) e
     (subst (λ xs. Tells K link says vs (i + 1) (get_or ls i (level 0 0)) xs row) c.chain.ensures c.in_ok-row.ensures) in
     record {
       told = omega (arith, ap length added, length_push before row, c.loop-i.invariant.told);
-      each = told_more (λ k r. Tells K link says vs k (level_of ls k) (chain_of chains k) r) before c.append.new.rows.items row i c.loop-i.invariant.told added c.loop-i.invariant.each here;
+      each = told_more (λ k r. Tells K link says vs k (level_of ls k) (chain_of chains k) r) before c.push.new.self.items row i c.loop-i.invariant.told added c.loop-i.invariant.each here;
+    }
+
+pub returns : goal.returns
+returns g c =
+    let f = c.args.self.now in
+    record {
+      one_each = search rules;
+      each = c.loop-i.invariant.each;
+      alone_no_dearer = alone_no_dearer g.met.P.Price.rules g.P.Price.link (g.M.Measure.says c.args.measure.now) f.line.vertices.now f.levels.now (chain_of (chains_of f.counts.now f.numbers.now)) c.requires.family;
     }

@@ -2,7 +2,7 @@ use Rattle.std.proofs.Common.{◌≡◌, ◌+◌, ◌-◌, ◌≤◌, length, ma
 use Rattle.std.specs.List.{concat}
 use Rattle.families.specs.Stay.{read_off}
 use Rattle.keys.specs.Key.{chains_to}
-use Rattle.keys.proofs.key.read_chains.Given as goal
+use Rattle.keys.proofs.key.chains_off.Given as goal
 
 abbrev pub invariant-loop-level : goal.invariant-loop-level
 invariant-loop-level l = record {

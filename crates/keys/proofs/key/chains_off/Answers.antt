@@ -6,8 +6,8 @@ use Rattle.std.proofs.lemmas.List.Folds.{concat-append}
 use Rattle.families.specs.Stay.{read_off}
 use Rattle.keys.specs.Key.{chains_to}
 use Rattle.keys.proofs.ChainLists.{staying_below}
-use Rattle.keys.proofs.key.read_chains.Goals as goal
-use Rattle.keys.proofs.key.read_chains.Goals.{else-loop-level-test, then-loop-level-test+in_ok-chain+in_ok-append+in_ok-push+else-level-m}
+use Rattle.keys.proofs.key.chains_off.Goals as goal
+use Rattle.keys.proofs.key.chains_off.Goals.{else-loop-level-test, then-loop-level-test+in_ok-chain+in_ok-append+in_ok-push+else-level-m}
 
 pub append-requires : goal.append-requires
 append-requires c =

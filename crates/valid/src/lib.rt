@@ -1,0 +1,4 @@
+// Family packs that the marker finds valid, read into memory.
+#![tactic(auto)]
+
+pub mod family;
