@@ -1,6 +1,7 @@
 // Reads a job pack from standard input and prints what a sheet draws of it; a refusal ends with status 1.
 #![tactic(auto)]
 
+use arguments::begin;
 use drawings::drawing::DrawError;
 use edits::job::draw_job;
 use edits::script::Edit;
@@ -8,8 +9,16 @@ use edits::text::edits_text;
 use std::io::Read;
 use std::process::ExitCode;
 
+const HELP: &str = "draw < JOB
+Reads a job pack, draws its line on a small sheet and prints the chain of each level and the total.
+Example: draw < samples/five.job
+";
+
 // Draws the job on standard input, and answers whether nothing was refused.
 fn draw(rt: &HostRuntime) -> anyhow::Result<bool> {
+    if begin(rt, 0, HELP)?.is_none() {
+        return Ok(true);
+    }
     let heap = rt.alloc();
     let mut bytes = Vec::new(heap);
     rt.stdin().read_to_end(&mut bytes)?;
@@ -26,6 +35,10 @@ fn draw(rt: &HostRuntime) -> anyhow::Result<bool> {
 fn main(rt: HostRuntime) -> ExitCode {
     match draw(&rt) {
         Ok(true) => ExitCode::SUCCESS,
-        Ok(false) | Err(_) => ExitCode::FAILURE,
+        Ok(false) => ExitCode::FAILURE,
+        Err(error) => {
+            let _ = rt.eprintln(error);
+            ExitCode::FAILURE
+        }
     }
 }

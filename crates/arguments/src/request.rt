@@ -1,0 +1,7 @@
+// What arguments ask for: the work of the program or its help; or they are not those that it takes.
+#[derive(Clone, Copy, PartialEq, Eq, Debug)]
+pub enum Asked {
+    Work,
+    Help,
+    Unknown,
+}
