@@ -1,1 +1,4 @@
+pub mod Drawn
+pub mod Exact
 pub mod Loops
+pub mod Showing

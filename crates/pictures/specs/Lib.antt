@@ -1,6 +1,9 @@
 pub mod Bounds
 pub mod Frame
+pub mod Exact
 pub mod Shapes
 pub mod Picture
-pub mod Draw
 pub mod Family
+pub mod Drawn
+pub mod Options
+pub mod Show

@@ -53,7 +53,7 @@ legend_text f count rows place form =
     codes "<g " ++ (font_text f ++ (codes ">" ++ (10 ∷ []))) ++ (whole_text f count ++ entries_text f rows) ++ (total_text f place form ++ (codes "</g>" ++ (10 ∷ [])))
 
 -- The whole picture.
-abbrev pub picture_text : Frame → ℕ → List Mark → List Row → List Row → Vertex × Vertex → ℕ → ℕ × ℕ → List ℕ
+unfoldable pub picture_text : Frame → ℕ → List Mark → List Row → List Row → Vertex × Vertex → ℕ → ℕ × ℕ → List ℕ
 picture_text f pixels marks banded rows ends place form =
     (opening_text f pixels ++ (view_text f ++ (ground_text f ++ strokes_text f marks banded rows))) ++
     (all_spots_text f marks rows ++ (end_text f ends.0 ++ end_text f ends.1)) ++

@@ -18,10 +18,13 @@ colour_text level =
     (cond (level == 6) (codes "#cc79a7")
     (cond (level == 7) (codes "#f0e442") (codes "#000000")))))))
 
+-- The place of a vertex.
+abbrev pub place_text : Frame → Vertex → List ℕ
+place_text f v = codes " " ++ (decimal (x_of f v) ++ (codes "," ++ decimal (y_of f v)))
+
 -- The place of a vertex that lies on the chain of a level.
 abbrev pub point_text : Frame → ℕ → Mark → List ℕ
-point_text f level m =
-    cond (nat_lt m.stay level) [] (codes " " ++ (decimal (x_of f m.vertex) ++ (codes "," ++ decimal (y_of f m.vertex))))
+point_text f level m = cond (nat_lt m.stay level) [] (place_text f m.vertex)
 
 -- The places of the vertices of the chain of a level.
 abbrev pub points_text : Frame → ℕ → List Mark → List ℕ

@@ -1,5 +1,6 @@
 // The marks and the rows of a family.
 ghost use Rattle.std.specs.Prelude.{◌≡◌, IfOk};
+ghost use Rattle.pictures.specs.Drawn.{DrawsChains};
 ghost use Rattle.pictures.specs.Family.{stay_of, marks_from, row_of_level};
 
 use crate::picture::{Mark, Row};
@@ -27,7 +28,8 @@ pub fn marks(
     chains: &[u16],
     top: usize,
 ) -> Result<Vec<Mark>, AllocError>
-    ensures { IfOk result (λ marks. marks.items ≡ marks_from 0 vertices.now chains.now top) }
+    ensures value { IfOk result (λ marks. marks.items ≡ marks_from 0 vertices.now chains.now top) }
+    ensures draws { IfOk result (λ marks. DrawsChains vertices.now chains.now top marks.items) }
 {
     let mut marks = Vec::new(heap);
     for (v, vertex) in vertices.iter().enumerate() {

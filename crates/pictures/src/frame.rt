@@ -1,8 +1,10 @@
 // Where a line lies in its picture, and how large things are drawn.
 ghost use Rattle.std.specs.Prelude.{◌≡◌, ◌*◌, ◌≤◌};
-ghost use Rattle.pictures.specs.Frame.{x_of, y_of, row_of, units_of, tall_of, frame_around};
+ghost use Rattle.pictures.specs.Exact.{ExactMap};
+ghost use Rattle.pictures.specs.Frame.{x_of, y_of, row_of, units_of, tall_of, frame_around, widest, frame_of};
 
 use crate::bounds::Bounds;
+use crate::picture::{Mark, Row};
 use lines::vertex::Vertex;
 
 // The frame of a picture. Distances of the line are multiplied by the factor; all sizes are whole multiples of the unit.
@@ -28,9 +30,29 @@ pub(crate) fn times(a: u16, b: u32) -> u64
     u64::from(a) * u64::from(b)
 }
 
+// The largest of the tolerances, and at most 65,535.
+fn widest(rows: &[Row]) -> u16
+    ensures { result ≡ widest 0 rows.now }
+{
+    let mut most = 0;
+    for row in rows {
+        most = most.max(row.tolerance.min(65535) as u16);
+    }
+    most
+}
+
 impl Frame {
+    // The frame of a line with bands, by its bounding box, and a legend of so many rows of levels, at most 8.
+    pub fn of(ends: (Vertex, Vertex), marks: &[Mark], banded: &[Row], rows: u8) -> Frame
+        ensures value { result ≡ frame_of ends marks.now banded.now rows }
+        ensures exact { ExactMap result ends marks.now }
+    {
+        let bounds = Bounds::at(ends.0).with(ends.1).around(marks);
+        Frame::around(bounds, widest(banded), rows.min(8) + 2)
+    }
+
     // The frame of a line in a box, with a band so far around the line, and a legend of so many rows.
-    pub(crate) fn around(bounds: Bounds, band: u16, rows: u8) -> Frame
+    fn around(bounds: Bounds, band: u16, rows: u8) -> Frame
         requires { rows ≤ 10 }
         ensures { result ≡ frame_around bounds band rows }
     {

@@ -2,8 +2,11 @@
 #![tactic(auto)]
 
 pub mod bounds;
-pub mod draw;
 pub mod family;
 pub mod frame;
+pub mod options;
 pub mod picture;
 mod shapes;
+pub mod show;
+#[cfg(test)]
+mod tests;

@@ -243,6 +243,7 @@ pub struct Picture<'a> {
 impl fmt::Display for Picture<'_> {
     ghost output = { λ p. Some (picture_text p.frame p.pixels p.marks.now p.banded.now p.rows.now p.ends p.place p.total) };
 
+    #[tactic(auto, unfolding(crate::specs::Picture::picture_text))]
     fn fmt<W: fmt::Write>(&self, f: &mut fmt::Formatter<W>) -> fmt::Result {
         let frame = self.frame;
         let marks = self.marks;
