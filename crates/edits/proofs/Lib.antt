@@ -1,3 +1,4 @@
+pub mod Watched
 pub mod Told
 pub mod Drew
 pub mod Jobs

@@ -1,19 +1,15 @@
 -- Reading a script line by line, and reading back a script of edits. Assumes nothing.
-use Rattle.std.proofs.Common.{◌≡◌, ℕ, ◌+◌, ◌^◌, ◌<◌, ◌≤◌, leb, true, false, List, [], ◌∷◌, ◌++◌, length, get_or, map, drop, Bor, Vec, Some, None, Ok, Err, Result, sym, refl, ap, ◌∙◌, subst, arith, add-one, append_assoc, append-nil}
-use Rattle.std.specs.Prelude.{IsFalse, codes, decimal, option_map, option_and_then}
-use Rattle.std.specs.Char.{is_ascii_digit}
-use Rattle.std.specs.List.{AllByRecursion, list_all, join_with_byte}
-use Rattle.std.specs.Str.{all_ascii_digits}
+use Rattle.std.proofs.Common.{◌≡◌, ℕ, ◌+◌, ◌<◌, ◌≤◌, true, false, List, [], ◌∷◌, ◌++◌, length, get_or, map, drop, Bor, Vec, Some, None, Ok, Err, Result, sym, refl, ap, ◌∙◌, subst, arith, add-one, append_assoc, append-nil}
+use Rattle.std.specs.Prelude.{codes, decimal, option_map, option_and_then}
+use Rattle.std.specs.List.{AllByRecursion, join_with_byte}
 use Rattle.std.proofs.Math.Seq.{drop-cons}
 use Rattle.std.proofs.lemmas.List.{drop_all}
-use Rattle.std.proofs.lemmas.Bool.{and_parts}
-use Rattle.std.proofs.lemmas.Bool.Decides.{nat_tests}
-use Rattle.std.proofs.lemmas.Fmt.{digits_decimal, decimal_nonempty}
 use Rattle.words.specs.Lines.{lines_of, IsLine}
 use Rattle.words.specs.Numbers.{number_of}
-use Rattle.words.specs.Words.{is_blank, words_of, IsWord}
+use Rattle.words.specs.Words.{words_of}
 use Rattle.words.proofs.LineTrips.{line_written}
-use Rattle.words.proofs.NumberTrips.{own, decimal_read}
+use Rattle.words.proofs.NumberTrips.{decimal_read}
+use Rattle.words.proofs.Solid.{Solid, printed_codes, solid_number, are_words, is_line}
 use Rattle.words.proofs.WordTrips.{words_joined}
 use Rattle.edits.specs.Script.{edit_text, script_text, NumbersFit, orders_nothing, vertex_edit_in, edit_in, first_ordered, ordered_from, script_in, ReadAs, GivesScriptBack}
 use Rattle.edits.specs.declared.script.Edit.{Edit}
@@ -71,53 +67,6 @@ module _ (lines : List (Bor (List ℕ))) (i : ℕ) (d : Bor (List ℕ)) (h : i <
 -- once no line is left
 pub ends : (lines : List (Bor (List ℕ))) (i : ℕ) (found : List Edit) → length lines ≤ i → onto found (ordered_from (i + 1) (texts (drop i lines))) ≡ Ok found
 ends lines i found h = ap (λ ls. onto found (ordered_from (i + 1) (texts ls))) (drop_all i lines h) ∙ ap Ok (append-nil found)
-
--- bytes above the code of a space, in which no line and no word ends
-abbrev Printed : List ℕ → Type 0
-Printed word = AllByRecursion (λ c. 33 ≤ c) word
-
-digit : (c : ℕ) → is_ascii_digit c ≡ true → 33 ≤ c
-digit c h = grind (arith, nat_tests)
-
-printed_digits : (word : List ℕ) → all_ascii_digits word ≡ true → Printed word
-printed_digits [] h = tt
-printed_digits (c ∷ word) h = let p = and_parts (is_ascii_digit c) (all_ascii_digits word) h in (digit c p.0, printed_digits word p.1)
-
-above : (c : ℕ) → leb 33 c ≡ true → 33 ≤ c
-above c h = grind (arith, nat_tests)
-
-printed_codes : (word : List ℕ) → list_all (λ c. leb 33 c) word ≡ true → Printed word
-printed_codes [] h = tt
-printed_codes (c ∷ word) h = let p = and_parts (leb 33 c) (list_all (λ d. leb 33 d) word) h in (above c p.0, printed_codes word p.1)
-
-no_blank : (c : ℕ) → 33 ≤ c → is_blank c ≡ false
-no_blank c h = grind (arith, nat_tests)
-
-printed_line : (word rest : List ℕ) → Printed word → IsLine rest → IsLine (word ++ rest)
-printed_line [] rest h r = r
-printed_line (c ∷ word) rest h r = ((λ e. omega (arith, h.0, e)), printed_line word rest h.1 r)
-
-printed_word : (word : List ℕ) → Printed word → AllByRecursion (λ c. IsFalse (is_blank c)) word
-printed_word [] h = tt
-printed_word (c ∷ word) h = (no_blank c h.0, printed_word word h.1)
-
--- a word that can stand on a line
-abbrev Solid : List ℕ → Type 0
-Solid word = (0 < length word) × Printed word
-
-solid_number : (n : ℕ) → n ≤ 4294967295 → Solid (decimal n)
-solid_number n h =
-    let small : n < 2 ^ 64 = omega arith in
-    (decimal_nonempty n small, printed_digits (decimal n) (digits_decimal own n small))
-
-are_words : (ws : List (List ℕ)) → AllByRecursion Solid ws → AllByRecursion IsWord ws
-are_words [] h = tt
-are_words (word ∷ ws) h = ((h.0.0, printed_word word h.0.1), are_words ws h.1)
-
-is_line : (ws : List (List ℕ)) → AllByRecursion Solid ws → IsLine (join_with_byte 32 ws)
-is_line [] h = tt
-is_line (word ∷ []) h = subst IsLine (append-nil word) (printed_line word [] h.0.1 tt)
-is_line (word ∷ next ∷ ws) h = printed_line word (32 ∷ join_with_byte 32 (next ∷ ws)) h.0.1 ((λ e. omega (arith, e)), is_line (next ∷ ws) h.1)
 
 -- the words of the line that orders an edit
 abbrev edit_words : Edit → List (List ℕ)

@@ -1,5 +1,5 @@
 -- The answers of a whole list of edits. Assumes nothing.
-use Rattle.std.proofs.Common.{◌≡◌, ℕ, zero, suc, ◌<◌, min, List, [], ◌∷◌, length, get_or, take, map, Ok, sym, refl, ap, ◌∙◌, arith}
+use Rattle.std.proofs.Common.{◌≡◌, ℕ, zero, suc, ◌<◌, min, List, [], ◌∷◌, length, get_or, take, map, Ok, sym, refl, ap, subst, ◌∙◌, arith}
 use Rattle.std.proofs.lemmas.List.{ext_get_or, length-map}
 use Rattle.std.specs.Borrow.{Bor}
 use Rattle.families.specs.Price.{Kind}
@@ -7,7 +7,6 @@ use Rattle.lines.specs.Fault.{then}
 use Rattle.lines.specs.declared.level.Level.{Level}
 use Rattle.lines.specs.declared.vertex.Vertex.{Vertex}
 use Rattle.measures.specs.Measure as measures
-use Rattle.packs.proofs.Answered.{then_ok, same_answer}
 use Rattle.prices.specs.Price.{LinkPrice}
 use Rattle.search.specs.declared.room.Room.{Room}
 use Rattle.sheets.specs.Settings.{Settings, opened, open_answer}
@@ -28,14 +27,6 @@ all_lent room =
     let b : min room.prices room.prices ≡ room.prices = omega arith in
     let c : min room.stays room.stays ≡ room.stays = omega arith in
     λ i. record { grades = a i; prices = b i; stays = c i }
-
--- a trial with as many places for answers as calls performs all of them
-pub all_performed : {P : Type 0} (n : ℕ) (ls : List Level) (largest : ℕ) (cs : List Call) (answers : List (Answer P)) (done : ℕ) → length answers ≡ length cs →
-    Ok done ≡ then (open_answer n ls largest) (λ _. Ok (min (length cs) (length answers))) → done ≡ length cs
-all_performed n ls largest cs answers done same answer =
-    let p = then_ok (open_answer n ls largest) _ done (sym answer) in
-    let least : min (length cs) (length answers) ≡ done = same_answer _ _ p.2 in
-    omega (arith, same, least)
 
 module _ {P : Type 0} (K : Kind P) (link : LinkPrice P) (room : Room) (line : Bor (List Vertex)) where
   -- an edit as a call
@@ -73,14 +64,20 @@ module _ {P : Type 0} (K : Kind P) (link : LinkPrice P) (room : Room) (line : Bo
       ext_get_or (Ok Done) answers (told_edits K link room line.now s es) (same ∙ sym (told_length s es))
       (λ q h. obeys q (omega (arith, h, same, all)) ∙ sym (told_at s es q (omega (arith, h, same))))
 
-  pub performs : (ls : List Level) (largest : ℕ) (says : measures.Answer) (es : List Edit) (answers : List (Answer P)) (done : ℕ) →
-      length answers ≡ length (calls_of es) → Ok done ≡ then (open_answer (length line.now) ls largest) (λ _. Ok (min (length (calls_of es)) (length answers))) →
-      ObeysSettings K link room (history (opened (length line.now) ls largest says) (calls_of es) answers done) →
+  -- what was told by the settings of a sheet that was just opened, in memory of this room
+  pub obeys_opened : (t s : Settings) (held : Room) (cs : List Call) (es : List Edit) (answers : List (Answer P)) → t ≡ s → held ≡ room → cs ≡ calls_of es →
+      ObeysSettings K link held (history t cs answers (length cs)) → ObeysSettings K link room (history s (calls_of es) answers (length (calls_of es)))
+  obeys_opened t s held cs es answers opening lent_all made obeys =
+      subst (λ x. ObeysSettings K link room (history x (calls_of es) answers (length (calls_of es)))) opening
+      (subst (λ r. ObeysSettings K link r (history t (calls_of es) answers (length (calls_of es)))) lent_all
+      (subst (λ x. ObeysSettings K link held (history t x answers (length x))) made obeys))
+
+  pub performs : (ls : List Level) (largest : ℕ) (says : measures.Answer) (es : List Edit) (answers : List (Answer P)) → length answers ≡ length (calls_of es) →
+      open_answer (length line.now) ls largest ≡ Ok tt →
+      ObeysSettings K link room (history (opened (length line.now) ls largest says) (calls_of es) answers (length (calls_of es))) →
       performed K link largest says line.now ls room es ≡ Ok (map (formed K) answers)
-  performs ls largest says es answers done same answer obeys =
-      let n = length line.now in
-      let p = then_ok (open_answer n ls largest) _ done (sym answer) in
+  performs ls largest says es answers same accepted obeys =
+      let s = opened (length line.now) ls largest says in
       let count = length-map es (call_of line room) in
-      let all : done ≡ length es = all_performed n ls largest (calls_of es) answers done same answer ∙ count in
-      ap (λ r. then r (λ _. Ok (map (formed K) (told_edits K link room line.now (opened n ls largest says) es)))) p.1 ∙
-      ap (λ z. Ok (map (formed K) z)) (sym (told_all (opened n ls largest says) es answers done (same ∙ count) all obeys))
+      ap (λ r. then r (λ _. Ok (map (formed K) (told_edits K link room line.now s es)))) accepted ∙
+      ap (λ z. Ok (map (formed K) z)) (sym (told_all s es answers (length (calls_of es)) (same ∙ count) count obeys))

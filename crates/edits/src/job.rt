@@ -10,6 +10,7 @@ ghost use Rattle.edits.specs.declared.script.Edit.TheVariants.{Draw};
 
 use crate::perform::Desk;
 use crate::script::Edit;
+use crate::watch::{Unwatched, Watch};
 use drawings::drawing::DrawError;
 use packs::job::Job;
 use packs::place::Place;
@@ -42,12 +43,13 @@ impl Edited {
 }
 
 // Tries edits on a sheet that is opened with a job, which lies in a place.
-fn edit_placed(
+fn edit_placed<W: Watch>(
     heap: Global,
     place: &Place,
     job: Job,
     edits: &[Edit],
     room: Room,
+    watch: &mut W,
 ) -> Result<Edited, DrawError>
     requires { (job.vertices ≤ 256) × (job.levels ≤ 8) }
     ensures level_count { IfOk result (λ e. e.levels ≡ job.levels) }
@@ -65,17 +67,23 @@ fn edit_placed(
     };
     Ok(Edited {
         levels: m,
-        answers: desk.perform_numbered(job.measure, job.price)?,
+        answers: desk.perform_numbered(job.measure, job.price, watch)?,
     })
 }
 
 // Opens a sheet with the job of a pack and tries edits on it in so much memory; or answers the reader's fault, or that memory ran out.
-fn edit_within(heap: Global, bytes: &[u8], edits: &[Edit], room: Room) -> Result<Edited, DrawError>
+fn edit_within<W: Watch>(
+    heap: Global,
+    bytes: &[u8],
+    edits: &[Edit],
+    room: Room,
+    watch: &mut W,
+) -> Result<Edited, DrawError>
     ensures { Edits bytes.now edits.now room result }
 {
     let mut place = Place::blank();
     let job = read_job(bytes, &mut place)?;
-    edit_placed(heap, &place, job, edits, room)
+    edit_placed(heap, &place, job, edits, room, watch)
 }
 
 // Opens a sheet with the job of a pack and tries edits on it, in memory for 256 vertices and 8 levels; or answers the reader's fault, or that
@@ -83,12 +91,24 @@ fn edit_within(heap: Global, bytes: &[u8], edits: &[Edit], room: Room) -> Result
 pub fn edit_job(heap: Global, bytes: &[u8], edits: &[Edit]) -> Result<Edited, DrawError>
     ensures { Edits bytes.now edits.now edit_room result }
 {
-    edit_within(heap, bytes, edits, Room::FULL)
+    edit_job_watched(heap, bytes, edits, &mut Unwatched)
+}
+
+// The same, and the watch is told after each edit how many are performed.
+pub fn edit_job_watched<W: Watch>(
+    heap: Global,
+    bytes: &[u8],
+    edits: &[Edit],
+    watch: &mut W,
+) -> Result<Edited, DrawError>
+    ensures { Edits bytes.now edits.now edit_room result }
+{
+    edit_within(heap, bytes, edits, Room::FULL, watch)
 }
 
 // Opens a sheet with the job of a pack and draws its line, in memory for a line of 40 vertices.
 pub fn draw_job(heap: Global, bytes: &[u8]) -> Result<Edited, DrawError>
     ensures { Edits bytes.now (Draw ∷ []) draw_room result }
 {
-    edit_within(heap, bytes, &[Edit::Draw], DRAW_ROOM)
+    edit_within(heap, bytes, &[Edit::Draw], DRAW_ROOM, &mut Unwatched)
 }

@@ -7,3 +7,6 @@ pub mod script;
 #[cfg(test)]
 mod script_tests;
 pub mod text;
+pub mod watch;
+#[cfg(test)]
+mod watch_tests;

@@ -3,13 +3,13 @@ use Rattle.edits.proofs.Jobs.{edited}
 use Rattle.edits.proofs.job.edit_within.Goals as goal
 
 pub edit_placed-requires : goal.edit_placed-requires
-edit_placed-requires c =
+edit_placed-requires g c =
     let read = c.read_job.ensures in
     let place = c.read_job.new.place in
     (job_read c.args.bytes.now c.in_ok-job.job place.vertices _ place.levels _ c.in_ok-job.ensures.answer read.accepts_exactly_lawful_jobs read.vertices read.levels).few
 
 pub returns : goal.returns
-returns c =
+returns g c =
     let read = c.read_job.ensures in
     let place = c.read_job.new.place in
     let h = job_read c.args.bytes.now c.in_ok-job.job place.vertices _ place.levels _ c.in_ok-job.ensures.answer read.accepts_exactly_lawful_jobs read.vertices read.levels in

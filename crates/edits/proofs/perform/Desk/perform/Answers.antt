@@ -1,40 +1,37 @@
 use Rattle.std.proofs.Common.{rules, ◌≡◌, length, map, Ok, sym, ap, ◌∙◌, subst}
 use Rattle.std.proofs.lemmas.List.{with_items_is, length-map}
+use Rattle.sheets.specs.Sheet.{settings_of}
 use Rattle.sheets.specs.Memory.{memory_of}
 use Rattle.sheets.specs.Call.{room_of}
-use Rattle.sheets.specs.Settings.{opened}
-use Rattle.sheets.specs.History.{history, ObeysSettings}
+use Rattle.sheets.specs.Settings.{opened, LawfulSettings}
+use Rattle.sheets.proofs.Histories as histories
 use Rattle.edits.specs.Edit.{call_of}
 use Rattle.edits.specs.Perform.{formed, EachLeast}
-use Rattle.edits.proofs.Told.{performs, all_performed}
+use Rattle.edits.proofs.Told.{obeys_opened, performs}
 use Rattle.edits.proofs.Drew.{each_least}
 use Rattle.edits.proofs.perform.Desk.perform.Goals as goal
 
-pub returns-clause-told : goal.returns-clause-told
-returns-clause-told g c =
+pub returns : goal.returns
+returns g c =
     let d = c.args.self.now in
-    let says = g.M.Measure.says c.args.measure in
-    let s = opened (length d.line.now) d.levels.now g.M.Measure.LARGEST says in
-    let made : c.as_slice.result.now ≡ map (call_of d.line d.room) d.edits.now = search rules in
-    let held : room_of (memory_of c.as_mut_slice.result.now c.as_mut_slice-2.result.now c.as_mut_slice-3.result.now) ≡ d.room = search rules in
-    let obeys = subst (λ r. ObeysSettings g.P.Price.kind g.P.Price.link r (history s c.as_slice.result.now c.trial.new.answers c.in_ok-trial.field-0)) held c.in_ok-trial.ensures.performed.obeys_settings in
-    let whole = with_items_is c.in_ok-answers.answers c.trial.new.answers (c.trial.auto.answers ∙ c.as_mut_slice-4.ensures.len) in
-    performs g.P.Price.kind g.P.Price.link d.room d.line d.levels.now g.M.Measure.LARGEST says d.edits.now c.trial.new.answers c.in_ok-trial.field-0
-    (rw (← made) (search rules)) (rw (← made) (search rules)) (rw (← made) obeys) ∙
-    ap Ok (ap (map (formed g.P.Price.kind)) (sym whole) ∙ sym c.in_ok-forms_of.ensures)
-
-pub returns-clause-each_least : goal.returns-clause-each_least
-returns-clause-each_least g c =
-    let d = c.args.self.now in
-    let s = opened (length d.line.now) d.levels.now g.M.Measure.LARGEST (g.M.Measure.says c.args.measure) in
     let K = g.P.Price.kind in
-    let answers = c.trial.new.answers in
-    let made : c.as_slice.result.now ≡ map (call_of d.line d.room) d.edits.now = search rules in
+    let link = g.P.Price.link in
+    let m = g.M.Measure in
+    let s = opened (length d.line.now) d.levels.now m.LARGEST (m.says c.args.measure) in
+    let answers = c.replay_watched.new.answers in
+    let calls = map (call_of d.line d.room) d.edits.now in
+    let opening = c.in_ok-sheet.ensures.answer in
+    let made : c.as_slice.result.now ≡ calls = search rules in
     let held : room_of (memory_of c.as_mut_slice.result.now c.as_mut_slice-2.result.now c.as_mut_slice-3.result.now) ≡ d.room = search rules in
-    let told = c.in_ok-trial.ensures.performed in
-    let obeys = subst (λ r. ObeysSettings K g.P.Price.link r (history s c.as_slice.result.now answers c.in_ok-trial.field-0)) held told.obeys_settings in
-    let whole = with_items_is c.in_ok-answers.answers answers (c.trial.auto.answers ∙ c.as_mut_slice-4.ensures.len) in
-    let all = all_performed (length d.line.now) d.levels.now g.M.Measure.LARGEST (map (call_of d.line d.room) d.edits.now) answers c.in_ok-trial.field-0 (rw (← made) (search rules)) (rw (← made) (search rules)) in
-    let count = length-map d.edits.now (call_of d.line d.room) in
-    subst (EachLeast K g.P.Price.link s d.line.now d.edits.now) (ap (map (formed K)) (sym whole) ∙ sym c.in_ok-forms_of.ensures)
-    (each_least K g.P.Price.link d.room d.line s d.edits.now answers c.in_ok-trial.field-0 (all ∙ count) (rw (← made) obeys) (rw (← made) told.each_least))
+    let obeys =
+    obeys_opened K link d.room d.line (settings_of m.LARGEST m.says c.in_ok-sheet.sheet) s _ c.as_slice.result.now d.edits.now answers opening.1 held made c.replay_watched.ensures
+    in
+    let whole = with_items_is c.in_ok-answers.answers answers (c.replay_watched.auto.answers ∙ c.as_mut_slice-4.ensures.len) in
+    let shown = ap (map (formed K)) (sym whole) ∙ sym c.in_ok-forms_of.ensures in
+    let lawful = subst LawfulSettings opening.1 c.in_ok-sheet.ensures.lawful in
+    let least = histories.each_least K link g.met.P.Price.rules s lawful (g.met.M.Measure.rules c.args.measure) d.room calls answers (length calls) obeys in record {
+      told = performs K link d.room d.line d.levels.now m.LARGEST (m.says c.args.measure) d.edits.now answers (rw (← made) (search rules)) opening.0 obeys ∙ ap Ok shown;
+      each_least =
+          subst (EachLeast K link s d.line.now d.edits.now) shown
+          (each_least K link d.room d.line s d.edits.now answers (length calls) (length-map d.edits.now (call_of d.line d.room)) obeys least);
+    }
