@@ -1,11 +1,11 @@
 #!/usr/bin/env python3
 """Plants bugs in the code, one at a time, and tells which of them the check does not refuse.
 
-    tools/plant.py [--each N] [--start S] [--jobs J] [--list] CRATE...
+    tools/plant.py [--each N] [--private P] [--start S] [--jobs J] [--list] CRATE...
 
-Each bug changes one line in the body of one function of crates/CRATE/src; no contract, definition, proof or test is changed. For each function
-N bugs that compile are drawn, from the fixed starting number S, or as many as there are. Each is tried with `rt check` in a copy of the
-checkout, and is
+Each bug changes one line in the body of one function of crates/CRATE/src; no contract, definition, proof or test is changed. For each public
+function and each method of a trait N bugs that compile are drawn, from the fixed starting number S, or as many as there are; for every other
+function, and for those that print or convert a value, P. Each is tried with `rt check` in a copy of the checkout, and is
 
   by a fact   something that the function promises, or that a call in it needs, is no longer proved
   otherwise   the proof files no longer fit the code, which shows less
@@ -46,10 +46,13 @@ CHANGES = [
 
 
 def bodies(text):
-    """The functions of a file: name, and the numbers of the lines of its body."""
+    """The functions of a file: name, whether it can be called from outside, and the numbers of the lines of its body."""
     lines = text.split("\n")
     n = 0
+    of_trait = False
     while n < len(lines):
+        if re.match(r"(unsafe )?impl\b|\}", lines[n]):
+            of_trait = " for " in lines[n] and not lines[n].endswith("{}")
         head = re.match(r"( *)(pub(?:\(\w+\))? )?(?:const )?fn (\w+)", lines[n])
         if not head:
             n += 1
@@ -61,7 +64,8 @@ def bodies(text):
         while end < len(lines) and lines[end] not in (head[1] + "}", head[1] + "{}"):
             end += 1
         if lines[min(n, len(lines) - 1)].endswith("{"):
-            yield head[3], bool(head[2]) and "(" not in head[2], range(n + 1, end)
+            public = of_trait or bool(head[2]) and "(" not in head[2]
+            yield head[3], public and head[3] not in ("fmt", "from", "try_from"), range(n + 1, end)
             n = end
         else:
             n = start + 1
@@ -126,6 +130,7 @@ def main():
     args = argparse.ArgumentParser(description=__doc__, formatter_class=argparse.RawDescriptionHelpFormatter)
     args.add_argument("crates", nargs="+")
     args.add_argument("--each", type=int, default=5)
+    args.add_argument("--private", type=int, default=2)
     args.add_argument("--start", type=int, default=1)
     args.add_argument("--jobs", type=int, default=2)
     args.add_argument("--list", action="store_true")
@@ -149,6 +154,7 @@ def main():
             copy = copies.pop()
         path = copy / file
         kept = path.read_text()
+        wanted = args.each if public else args.private
         planted = 0
         for kind, n, line in fitting:
             lines = kept.split("\n")
@@ -162,12 +168,12 @@ def main():
                 told[crate][answer] += 1
                 if answer != "by a fact":
                     print(f"{answer}: {file}:{n + 1} {name} {kind}: {was}  =>  {line.strip() or '(dropped)'}", flush=True)
-            if planted == args.each:
+            if planted == wanted:
                 break
         path.write_text(kept)
         with lock:
             copies.append(copy)
-            if public and planted < args.each:
+            if public and planted < wanted:
                 print(f"only {planted} fit: {file} {name}", flush=True)
 
     with concurrent.futures.ThreadPoolExecutor(args.jobs) as workers:

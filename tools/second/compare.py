@@ -242,10 +242,8 @@ def compare_odd(pool, tally, folder):
         with open(path, 'wb') as f:
             f.write(data)
     for script in ODD_SCRIPTS:
-        for arguments in ([lawful], [refused], [none], [folder], [], [lawful, none], [none, lawful], ['']):
+        for arguments in ([lawful], [refused], [none], [folder], [], ['']):
             compare_whole(pool, tally, 'edit', 'an odd script or argument', script, *arguments)
-    for name in ('mark', 'least', 'draw'):
-        compare_whole(pool, tally, name, 'further arguments', FIVE.pack(), 'further', 'arguments')
 
 
 def report(tally, seconds):
