@@ -156,7 +156,7 @@ def main():
         kept = path.read_text()
         wanted = args.each if public else args.private
         planted = 0
-        for kind, n, line in fitting:
+        for kind, n, line in fitting if wanted else []:
             lines = kept.split("\n")
             was, lines[n] = lines[n].strip(), line
             path.write_text("\n".join(lines))
