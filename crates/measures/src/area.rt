@@ -28,7 +28,8 @@ impl Measure for Area {
     ghost rules = { λ m. area_rules };
 
     fn allows(&self, line: &Line, i: usize, j: usize, t: u32) -> bool {
-        line.is_link(i, j) && within(link_area(line, i, j), t)
+        // A tolerance above the largest is refused before the area is reckoned.
+        t <= Self::LARGEST && line.is_link(i, j) && within(link_area(line, i, j), t)
     }
 
     // The area is reckoned once, for all levels.

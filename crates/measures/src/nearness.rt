@@ -30,13 +30,21 @@ pub(crate) trait Nearness {
     ghost rises: { Rises near };
 }
 
-// A tolerance as wide as the widest of the levels, up to the largest of these measures.
+// A tolerance, or 0 in place of one above the largest of these measures, which allows nothing.
+fn usable(t: u32) -> u32
+    ensures bound { result ≤ skipped_largest }
+    ensures kept { t ≤ skipped_largest → result ≡ t }
+{
+    if t <= LARGEST { t } else { 0 }
+}
+
+// The widest tolerance of the levels that is not above the largest of these measures: one above it allows nothing, and would only make the pass longer.
 fn widest(levels: &[Level]) -> u32
     ensures bound { result ≤ skipped_largest }
     ensures covers { All (λ (l : Level). l.tolerance ≤ skipped_largest → l.tolerance ≤ result) levels.now }
 {
-    let widest = levels.iter().map(|level| level.tolerance).max();
-    widest.unwrap_or(0).min(LARGEST)
+    let tolerances = levels.iter().map(|level| usable(level.tolerance));
+    tolerances.max().unwrap_or(0)
 }
 
 // The most that a skipped vertex of i → j lies apart from this link, or nothing as soon as one is not near at the tolerance t.

@@ -1,5 +1,5 @@
 -- Items of one width in a byte string. Assumes nothing.
-use Rattle.std.proofs.Common.{◌≡◌, ℕ, zero, suc, ◌+◌, ◌*◌, ◌<◌, List, [], ◌∷◌, ◌++◌, length, take, drop, set, sym, refl, ap, ◌∙◌, add_comm, mul-zero, mul-suc, add-one}
+use Rattle.std.proofs.Common.{◌≡◌, ℕ, zero, suc, ◌+◌, ◌*◌, ◌<◌, List, [], ◌∷◌, ◌++◌, length, get_or, take, drop, set, sym, refl, ap, ◌∙◌, add_comm, mul-zero, mul-suc, add-one, arith}
 use Rattle.std.proofs.lemmas.List.{drop-drop, take_more_set}
 use Rattle.packs.specs.Job.{items}
 
@@ -25,3 +25,9 @@ module _ {X : Type 0} (w : ℕ) (from : List ℕ → X) where
   pub length_items : (k : ℕ) (bs : List ℕ) → length (items w from k bs) ≡ k
   length_items zero bs = refl
   length_items (suc k) bs = ap suc (length_items k (drop w bs))
+
+  -- the item at a position
+  pub get_or_items : (k i : ℕ) (bs : List ℕ) (d : X) → i < k → get_or (items w from k bs) i d ≡ from (drop (w * i) bs)
+  get_or_items zero i bs d h = absurd (omega arith)
+  get_or_items (suc k) zero bs d h = rw (mul-zero w) refl
+  get_or_items (suc k) (suc i) bs d h = get_or_items k i (drop w bs) d (omega arith) ∙ ap from (past i bs)

@@ -47,9 +47,9 @@ impl Price for CountThenArea {
         }
     }
 
-    // The order of the forms, those of pairs; the interface says why it is no `PartialOrd`.
+    // The order of the forms, those of pairs; a smaller count decides it before the forms are made. The interface says why it is no `PartialOrd`.
     fn not_dearer(self, other: CountThenArea) -> bool {
-        self.form() <= other.form()
+        self.count < other.count || self.form() <= other.form()
     }
 
     fn of_link(line: &Line, i: usize, j: usize, weight: u32) -> CountThenArea {

@@ -18,8 +18,7 @@ pub trait Price: Copy {
     fn join(self, other: Self) -> Self
         ensures { result ≡ kind.join self other };
 
-    // Whether this price is not dearer than the other. No `PartialOrd`: an order may differ from that of the form, and may leave two prices level that
-    // are not equal.
+    // Whether this price is not dearer than the other. No `PartialOrd`: an order may differ from that of the form.
     fn not_dearer(self, other: Self) -> bool
         ensures { result ≡ kind.not_dearer self other };
 

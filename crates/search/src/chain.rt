@@ -9,19 +9,14 @@ use std::alloc::{AllocError, Global};
 pub fn next_on_chain(stays: &[u8], k: usize, v: usize) -> Option<usize>
     ensures { NextOnChain (read_off (λ w. slice_index stays.now w) (length stays.now) k) v result }
 {
-    let mut further = stays.iter().enumerate().skip(v.saturating_add(1));
-    let next = further.find(|(_, stay)| **stay as usize >= k);
-    next.map(|(w, _)| w)
+    (v.saturating_add(1)..stays.len()).find(|w| stays[*w] as usize >= k)
 }
 
 // The chain of level k: the vertices whose stay is k or larger.
 pub fn read_chain(heap: Global, stays: &[u8], k: usize) -> Result<Vec<usize>, AllocError>
     ensures { IfOk result (λ chain. chain.items ≡ read_off (λ v. slice_index stays.now v) (length stays.now) k) }
 {
-    stays
-        .iter()
-        .enumerate()
-        .filter(|(_, stay)| **stay as usize >= k)
-        .map(|(v, _)| v)
+    (0..stays.len())
+        .filter(|v| stays[*v] as usize >= k)
         .collect(heap)
 }
