@@ -6,7 +6,7 @@ use std::fmt::Display;
 use std::io;
 use std::io::Eprint;
 use std::test::Fail;
-use std::time::{Clock, Duration};
+use std::time::{Clock, Duration, Instant};
 
 // A clock at so many milliseconds, and how many lines were written.
 #[derive(Drop)]
@@ -74,6 +74,26 @@ fn due_after_a_second(rt: HostRuntime) {
     ] {
         assert_eq!(rt; is_due(passed), due);
     }
+}
+
+// The line that a teller of 1000 edits has at these milliseconds, 120 of them done and nothing told since 0.
+fn line_at(wanted: bool, time: u64) -> Option<(usize, Option<usize>)> {
+    let desk = Desk {
+        now: Cell::new(0),
+        lines: Cell::new(0),
+    };
+    let mut teller = Teller::new(&desk, wanted, Some(1000), "edits");
+    teller.tell(120);
+    desk.now.set(time);
+    let line = teller.line_at(Instant::now(&desk).ok()?)?;
+    Some((line.done, line.all))
+}
+
+#[test]
+fn line_after_a_second(rt: HostRuntime) {
+    assert_eq!(rt; line_at(true, 999), None);
+    assert_eq!(rt; line_at(true, 1000), Some((120, Some(1000))));
+    assert_eq!(rt; line_at(false, 1000), None);
 }
 
 #[test]
